@@ -1,0 +1,4 @@
+pub mod Products
+pub mod Floors
+pub mod Polynomials
+pub mod Identities

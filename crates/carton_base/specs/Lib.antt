@@ -1,0 +1,4 @@
+pub mod Rounding
+pub mod Moments
+pub mod Directions
+pub mod Grid

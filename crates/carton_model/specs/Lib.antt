@@ -1,0 +1,3 @@
+pub mod Dielines
+pub mod Parting
+pub mod HalfTurns
