@@ -1,0 +1,12 @@
+pub mod Turning
+pub mod Mirrored
+pub mod Chords
+pub mod Folds
+pub mod Roundings
+pub mod Rates
+pub mod Peaks
+pub mod Scaling
+pub mod Sizes
+pub mod Enclosing
+pub mod Leading
+pub mod Following

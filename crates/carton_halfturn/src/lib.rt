@@ -1,0 +1,14 @@
+//! Cosine and sine of a fold that moves evenly, by the half pair of the fold, within bounds in units
+//! of 2^-40.
+#![tactic(auto)]
+
+mod bounds;
+mod ranges;
+mod slopes;
+mod spans;
+mod values;
+
+pub use bounds::{cos_bounds, sin_bounds};
+pub use slopes::{cos_slope, sin_slope};
+pub use spans::{FoldSpan, span};
+pub use values::{cos_start, sin_start};
