@@ -1,0 +1,8 @@
+pub mod Steps
+pub mod Values
+pub mod Vertices
+pub mod Edges
+pub mod Letters
+pub mod Faces
+pub mod Angles
+pub mod Dieline
