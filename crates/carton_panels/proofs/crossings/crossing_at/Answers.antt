@@ -1,0 +1,30 @@
+use Rattle.std.proofs.Common.{rules, ◌≡◌, subst, get_or, SFits, ◌-ℤ◌, ◌*ℤ◌}
+use Rattle.std.specs.Int.{w128}
+use Rattle.std.proofs.lemmas.Int.{to_z-of_z}
+use Rattle.carton_panels.specs.Panels.{sides_of}
+use Rattle.carton_panels.specs.Crossings.{IsPointOf}
+use Rattle.carton_panels.proofs.Crossed.{crossing_from_lines}
+use Rattle.carton_panels.proofs.crossings.crossing_at.Goals as goal
+
+pub returns : goal.returns
+returns c = λ d.
+    let s = c.inset_at-first.result in
+    let t = c.inset_at-second.result in
+    let sa : SFits w128 s.a = search rules in
+    let sb : SFits w128 s.b = search rules in
+    let se : SFits w128 s.e = search rules in
+    let ta : SFits w128 t.a = search rules in
+    let tb : SFits w128 t.b = search rules in
+    let te : SFits w128 t.e = search rules in
+    let fx : SFits w128 c.determinant-x.result = search rules in
+    let fy : SFits w128 c.determinant-y.result = search rules in
+    let fw : SFits w128 c.determinant-w.result = search rules in
+    let x : c.determinant-x.result ≡ s.e *ℤ t.b -ℤ t.e *ℤ s.b = simp to_z-of_z at c.determinant-x.ensures.value in
+    let y : c.determinant-y.result ≡ t.e *ℤ s.a -ℤ s.e *ℤ t.a = simp to_z-of_z at c.determinant-y.ensures.value in
+    let w : c.determinant-w.result ≡ s.a *ℤ t.b -ℤ t.a *ℤ s.b = simp to_z-of_z at c.determinant-w.ensures.value in
+    let r = c.point.result in
+    let p0 : IsPointOf c.determinant-x.result c.determinant-y.result c.determinant-w.result r = simp to_z-of_z at c.point.ensures in
+    let p1 = subst (λ n. IsPointOf n c.determinant-y.result c.determinant-w.result r) x p0 in
+    let p2 = subst (λ n. IsPointOf (s.e *ℤ t.b -ℤ t.e *ℤ s.b) n c.determinant-w.result r) y p1 in
+    let p3 = subst (λ n. IsPointOf (s.e *ℤ t.b -ℤ t.e *ℤ s.b) (t.e *ℤ s.a -ℤ s.e *ℤ t.a) n r) w p2 in
+    crossing_from_lines c.args.margin (get_or (sides_of c.args.places.now) c.args.i d) (get_or (sides_of c.args.places.now) c.args.j d) r s.a s.b s.e t.a t.b t.e (c.inset_at-first.ensures d) (c.inset_at-second.ensures d) p3

@@ -1,0 +1,105 @@
+ghost use Rattle.std.specs.Prelude.{◌≡◌, ◌<◌, ◌≤◌, length, IsTrue, ◌↔◌};
+ghost use Rattle.carton_model.specs.Dielines.{IsDieline};
+ghost use Rattle.carton_panels.specs.Panels.{InPanel, places_of, face_at};
+ghost use Rattle.carton_panels.specs.Insets.{IsSmall};
+ghost use Rattle.carton_panels.specs.Shrinking.{InShrunk};
+ghost use Rattle.carton_panels.specs.Shapes.{IsShape};
+ghost use Rattle.carton_panels.specs.Answers.{IsPanelAnswer};
+
+use crate::crossings::inset_corners;
+use crate::error::PanelError;
+use crate::lines::keeps_all;
+use crate::refusals::{is_convex, is_repeating};
+use crate::rooms::has_room;
+use crate::vertices::{places_of, true_corners};
+use carton_base::{PanelId, Point, RawDieline, Triple};
+use std::alloc::Global;
+use std::marker::Model;
+
+/// A convex face of a dieline, with what an inward margin leaves of it. All in dieline units.
+#[derive(Debug, Drop)]
+pub struct PanelShape {
+    places: Vec<Point>,
+    margin: u16,
+    corners: Vec<Triple>,
+    shrunk: Vec<Triple>,
+}
+
+impl Model for PanelShape {
+    ghost use Rattle.carton_panels.specs.Shapes.{Shape, IsShape};
+
+    ghost Value = { Shape };
+
+    ghost view = { λ p. record { places = p.places.items; margin = p.margin; corners = p.corners.items; shrunk = p.shrunk.items } };
+
+    ghost invariant = { λ p. IsShape (record { places = p.places.items; margin = p.margin; corners = p.corners.items; shrunk = p.shrunk.items }) };
+}
+
+impl PanelShape {
+    /// The corners in the face's order, with w = 1.
+    pub fn corners(&self) -> &[Triple]
+        ensures { result.now ≡ self.now.corners }
+    {
+        self.corners.as_slice()
+    }
+
+    /// All corners of the shrunk panel, each once, in no set order.
+    pub fn shrunk(&self) -> &[Triple]
+        ensures corners { result.now ≡ self.now.shrunk }
+        ensures shape { IsShape self.now }
+    {
+        self.shrunk.as_slice()
+    }
+
+    /// Whether the flat point lies in the panel, its sides among it.
+    pub fn contains(&self, t: Triple) -> bool
+        requires { IsSmall t }
+        ensures { IsTrue result ↔ InPanel self.now.places t.x t.y t.w }
+    {
+        keeps_all(&self.places, 0, t)
+    }
+
+    /// Whether the flat point lies in the shrunk panel, its sides among it.
+    pub fn in_shrunk(&self, t: Triple) -> bool
+        requires { IsSmall t }
+        ensures { IsTrue result ↔ InShrunk self.now.margin self.now.places t.x t.y t.w }
+    {
+        keeps_all(&self.places, self.margin, t)
+    }
+}
+
+/// The face as a panel, with what the margin leaves of it. The first of these rules that the face
+/// breaks refuses it: its vertices stand in different places; no vertex lies right of a side, and
+/// each side has one strictly left of it; some point lies farther inside than the margin along
+/// both axes.
+pub fn panel(
+    alloc: Global,
+    raw: &RawDieline,
+    face: PanelId,
+    margin: u16,
+) -> Result<PanelShape, PanelError>
+    requires dieline { IsDieline raw.now }
+    requires face { face.0 < length raw.now.faces }
+    requires margin { margin ≤ 1000 }
+    ensures { IsPanelAnswer face margin (places_of raw.now (face_at raw.now face.0)) result }
+{
+    let places = places_of(alloc, raw, face)?;
+    if is_repeating(&places) {
+        return Err(PanelError::RepeatedVertex(face));
+    }
+    if !is_convex(&places) {
+        return Err(PanelError::NotConvex(face));
+    }
+    let shrunk = inset_corners(alloc, &places, margin)?;
+    let found = shrunk.as_slice();
+    if found.is_empty() || !has_room(&places, margin, found) {
+        return Err(PanelError::TooThin(face));
+    }
+    let corners = true_corners(alloc, &places)?;
+    Ok(PanelShape {
+        places,
+        margin,
+        corners,
+        shrunk,
+    })
+}
