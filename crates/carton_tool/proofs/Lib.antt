@@ -1,0 +1,7 @@
+pub mod ThreeWords
+pub mod Judged
+pub mod Making
+pub mod Files
+pub mod Ordered
+pub mod Determined
+pub mod OneAnswer

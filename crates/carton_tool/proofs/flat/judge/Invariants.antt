@@ -1,0 +1,6 @@
+use Rattle.std.proofs.Common.{◌+◌}
+use Rattle.carton_tool.specs.Pairs.{IsJudgedSoFar}
+use Rattle.carton_tool.proofs.flat.judge.Given as goal
+
+abbrev pub invariant-loop-a : goal.invariant-loop-a
+invariant-loop-a l = IsJudgedSoFar l.margin l.raw l.a (l.a + 1) l.count

@@ -1,0 +1,5 @@
+use Rattle.carton_tool.specs.Pairs.{IsJudgedSoFar}
+use Rattle.carton_tool.proofs.flat.judge_row.Given as goal
+
+abbrev pub invariant-loop-b : goal.invariant-loop-b
+invariant-loop-b l = IsJudgedSoFar l.margin l.raw l.a l.b l.count

@@ -1,0 +1,14 @@
+//! The top call of carton: from the words of a command line to the text and the status.
+#![tactic(auto)]
+
+mod answer;
+mod flat;
+mod halt;
+mod status;
+mod steady;
+mod tool;
+mod words;
+
+pub use status::Status;
+pub use steady::run_steadily;
+pub use tool::run;
