@@ -1,9 +1,9 @@
 -- From the tests of a face to the panel, or to what is wrong with it.
-use Rattle.std.proofs.Common.{◌≡◌, ℕ, ◌<◌, ◌≤◌, ◌^◌, List, [], ◌∷◌, length, get_or, map, subst, arith, ℤ, pos, ◌≤ℤ◌, ◌<ℤ◌, unsigned_abs}
+use Rattle.std.proofs.Common.{◌≡◌, ℕ, ◌<◌, ◌≤◌, List, [], ◌∷◌, length, get_or, map, subst, arith, ℤ, pos, ◌≤ℤ◌, ◌<ℤ◌}
 use Rattle.std.specs.Prelude.{All, Any, Contains}
 use Rattle.std.proofs.lemmas.Int.{ints, by_lt_z}
 use Rattle.std.proofs.lemmas.List.{length-map, get_or_default}
-use Rattle.std.proofs.lemmas.List.Elements.{All-weaker, All-map}
+use Rattle.std.proofs.lemmas.List.Elements.{All-map}
 use Rattle.carton_base.specs.declared.dieline.RawDieline.{RawDieline}
 use Rattle.carton_base.specs.declared.dieline.Point.{Point}
 use Rattle.carton_base.specs.declared.numbers.Triple.{Triple}
@@ -11,7 +11,7 @@ use Rattle.carton_model.specs.Dielines.{IsDieline, IsNear, IsFace, most_corners}
 use Rattle.carton_panels.specs.Panels.{Side, sides_of, places_of, face_at, origin, IsConvex, IsDistinct, corners_of}
 use Rattle.carton_panels.specs.Shrinking.{IsThin}
 use Rattle.carton_panels.specs.Shapes.{IsShape, place_of}
-use Rattle.carton_panels.specs.Insets.{IsSmall, inset}
+use Rattle.carton_panels.specs.Insets.{inset}
 use Rattle.carton_panels.specs.Crossings.{CoversRow, IsGathered}
 use Rattle.carton_panels.proofs.Around.{length-sides_of}
 use Rattle.carton_panels.proofs.Corners.{IsComplete, generates, has_room, thin_without_corners, thin_along_a_side}
@@ -68,5 +68,5 @@ shape_made m ps cs ts some few near distinct convex margin corners whole gathere
       generates = generates m ps ts positive convex complete;
       once = gathered.once;
       shrunk_near = members_near m ps ts positive near convex gathered.members;
-      small = All-weaker IsSmall (λ (t : Triple). unsigned_abs t.w ≤ 2 ^ 45) (λ t s. s.w) ts gathered.small;
+      small = gathered.small;
     }

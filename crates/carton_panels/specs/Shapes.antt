@@ -1,9 +1,10 @@
 -- A panel as a shape: where its vertices stand, its margin, its corners, and the corners of the shrunk panel.
-use Rattle.std.specs.Prelude.{◌≡◌, ℕ, ◌<◌, ◌≤◌, ◌*◌, ◌^◌, List, length, map, All, AllPairs, ℤ, pos, ◌<ℤ◌, unsigned_abs}
+use Rattle.std.specs.Prelude.{◌≡◌, ℕ, ◌<◌, ◌≤◌, ◌*◌, List, length, map, All, AllPairs, ℤ, pos, ◌<ℤ◌, unsigned_abs}
 use Rattle.carton_base.specs.declared.dieline.Point.{Point}
 use Rattle.carton_base.specs.declared.numbers.Triple.{Triple}
 use Rattle.carton_panels.specs.Panels.{IsDistinct, IsConvex, corners_of}
 use Rattle.carton_panels.specs.Shrinking.{InShrunk, HasRoom, IsMeanOf, IsSamePoint}
+use Rattle.carton_panels.specs.Insets.{IsSmall}
 use Rattle.carton_model.specs.Dielines.{farthest, most_corners, IsNear}
 
 pub record Shape : Type 0 where
@@ -37,4 +38,4 @@ pub record IsShape (s : Shape) : Type 0 where
   pub generates : (x y w : ℤ) → pos 0 <ℤ w → InShrunk s.margin s.places x y w → IsMeanOf s.shrunk x y w
   pub once : AllPairs (λ a b. ¬ (IsSamePoint a b)) s.shrunk
   pub shrunk_near : All IsNearPoint s.shrunk
-  pub small : All (λ t. unsigned_abs t.w ≤ 2 ^ 45) s.shrunk
+  pub small : All IsSmall s.shrunk
