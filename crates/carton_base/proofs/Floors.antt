@@ -1,7 +1,7 @@
 -- Rounded quotients.
-use Rattle.std.proofs.Common.{◌≡◌, ◌≢◌, ◌<◌, ℤ, pos, negsuc, ◌+ℤ◌, ◌*ℤ◌, ◌≤ℤ◌, ◌<ℤ◌, arith}
-use Rattle.std.proofs.lemmas.Int.{ints}
-use Rattle.std.specs.Int.{int_div_euclid, int_rem_euclid}
+use Rattle.std.proofs.Common.{◌≡◌, ◌≢◌, ◌<◌, ℤ, pos, negsuc, ◌+ℤ◌, ◌*ℤ◌, ◌≤ℤ◌, ◌<ℤ◌, arith, SFits, to_z, of_z, ◌∙◌}
+use Rattle.std.proofs.lemmas.Int.{ints, to_z-of_z}
+use Rattle.std.specs.Int.{w128, int_div_euclid, int_rem_euclid}
 use Rattle.carton_base.specs.Rounding.{IsFloor, IsCeil}
 use Rattle.carton_base.proofs.Products.{mul_add_right}
 
@@ -35,3 +35,7 @@ div_euclid_rest a b p z =
     let r = rem_euclid_range a b p in
     let m = mul_add_right (int_div_euclid a b) (pos 1) b in
     record { above = omega (arith, ints, e, r.1, m); last = omega (arith, ints, e, r.0, z, m) }
+
+-- what is true of two numbers as a call hands them over is true of them
+pub unwrapped : (f : ℤ → ℤ → ℤ) (a b r : ℤ) → SFits w128 a → SFits w128 b → r ≡ f (to_z w128 (of_z w128 a)) (to_z w128 (of_z w128 b)) → r ≡ f a b
+unwrapped f a b r x y e = e ∙ (λ i. f (to_z-of_z w128 a x i) (to_z-of_z w128 b y i))

@@ -1,4 +1,12 @@
 pub mod Products
 pub mod Floors
+pub mod Sized
+pub mod Quotients
 pub mod Polynomials
 pub mod Identities
+pub mod Loops
+pub mod Tests
+pub mod DirectionTests
+pub mod AllDirections
+pub mod Steps
+pub mod Entries

@@ -6,9 +6,9 @@ pub record IsSign (c : ℤ) : Type 0 where
   pub from : neg_ℤ (pos 1) ≤ℤ c
   pub upto : c ≤ℤ pos 1
 
--- each part is -1, 0 or 1, and they are not all 0
-pub record IsDirection (x y z : ℤ) : Type 0 where
-  pub along_x : IsSign x
-  pub along_y : IsSign y
-  pub along_z : IsSign z
-  pub some : ¬ ((x ≡ pos 0) × (y ≡ pos 0) × (z ≡ pos 0))
+-- each part of (u, v, t) is -1, 0 or 1, and they are not all 0
+pub record IsDirection (u v t : ℤ) : Type 0 where
+  pub x : IsSign u
+  pub y : IsSign v
+  pub z : IsSign t
+  pub some : ¬ ((u ≡ pos 0) × (v ≡ pos 0) × (t ≡ pos 0))

@@ -1,4 +1,6 @@
 pub mod Rounding
+pub mod Fractions
 pub mod Moments
 pub mod Directions
 pub mod Grid
+pub mod Steps

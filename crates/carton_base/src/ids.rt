@@ -1,5 +1,5 @@
 /// A panel: the place of its face in the dieline's list of faces, from 0.
-#[derive(Clone, Copy, Debug, PartialEq, Eq, PartialOrd, Ord, Hash)]
+#[derive(Clone, Copy, Debug, Default, PartialEq, Eq, PartialOrd, Ord, Hash)]
 pub struct PanelId(pub u8);
 
 /// An edge: its place in the dieline's list of edges, from 0.

@@ -1,4 +1,5 @@
 ghost use Rattle.std.specs.Prelude.{◌≡◌, ℤ, pos, ◌≤ℤ◌, ◌<ℤ◌, ◌<◌, ◌≤◌, ◌^◌, ◌*◌, ◌+◌};
+ghost use Rattle.carton_base.specs.declared.limits.TheConstants.{MOST_HALVINGS};
 
 /// The moment num/den of a move, from 0 at its start to 1 at its end.
 #[derive(Clone, Copy, Debug, PartialEq, Eq)]
@@ -16,7 +17,7 @@ pub struct Piece {
     pub index: u64,
     pub depth: u8,
     pub ghost within: { index < 2 ^ depth },
-    pub ghost shallow: { depth ≤ 36 },
+    pub ghost shallow: { depth ≤ MOST_HALVINGS },
 }
 
 impl Piece {
@@ -31,7 +32,7 @@ impl Piece {
     // How many pieces of this depth a move has.
     fn pieces(self) -> u64
         ensures count { result ≡ 2 ^ self.depth }
-        ensures bound { result ≤ 2 ^ 36 }
+        ensures bound { result ≤ 2 ^ MOST_HALVINGS }
     {
         1u64 << self.depth
     }
@@ -62,7 +63,7 @@ impl Piece {
 
     /// The two halves of the piece, which together have all its moments.
     pub fn halves(self) -> (Piece, Piece)
-        requires { self.depth < 36 }
+        requires { self.depth < MOST_HALVINGS }
         ensures first_index { result.0.index ≡ 2 * self.index }
         ensures first_depth { result.0.depth ≡ self.depth + 1 }
         ensures second_index { result.1.index ≡ 2 * self.index + 1 }

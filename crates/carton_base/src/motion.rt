@@ -1,9 +1,15 @@
+ghost use Rattle.std.specs.Prelude.{◌≡◌, unsigned_abs};
+ghost use Rattle.carton_base.specs.Grid.{IsGrid};
+
+use crate::limits::MOST_JOINTS;
+
 /// A stop for each free joint: place k holds the stop of the k-th free joint in the order of edges,
 /// and the places past the joints hold 0. `grid` is the number of stops in a right angle, 8 or 16.
 #[derive(Clone, Copy, Debug, PartialEq, Eq, Hash)]
 pub struct State {
-    pub stops: [i8; 24],
+    pub stops: [i8; MOST_JOINTS],
     pub grid: u8,
+    pub ghost on_grid: { IsGrid grid },
 }
 
 /// A move from one state to another of the same grid, in which each stop changes by at most four.
@@ -11,6 +17,7 @@ pub struct State {
 pub struct Motion {
     pub from: State,
     pub to: State,
+    pub ghost one_grid: { to.grid ≡ from.grid },
 }
 
 /// How one joint turns: about the line x = `at` where `upright`, else about y = `at`, in dieline
@@ -22,4 +29,5 @@ pub struct Turn {
     pub upright: bool,
     pub at: i32,
     pub sign: i8,
+    pub ghost signed: { unsigned_abs sign ≡ 1 },
 }

@@ -1,7 +1,8 @@
 ghost use Rattle.std.specs.Prelude.{◌^◌, ◌<◌, pos, ◌*ℤ◌, ◌<ℤ◌, unsigned_abs};
 ghost use Rattle.carton_base.specs.Rounding.{IsFloor, IsCeil, unit};
 
-const UNIT: i128 = 1 << 40;
+/// The units in one whole: fixed point numbers are in units of 2^-40.
+pub const UNIT: i128 = 1 << 40;
 
 /// a / b rounded down.
 pub fn floor_div(a: i128, b: i128) -> i128

@@ -10,9 +10,9 @@ AreSigns (a ∷ b ∷ c ∷ []) = IsSign a × IsSign b × IsSign c
 AreSigns _ = ⊥
 
 -- the product of a direction and the point (x/w, y/w, z/w), times w
-abbrev pub along : List ℤ → ℤ → ℤ → ℤ → ℤ
-along (a ∷ b ∷ c ∷ []) x y z = a *ℤ x +ℤ b *ℤ y +ℤ c *ℤ z
-along _ x y z = pos 0
+abbrev pub dot : List ℤ → ℤ → ℤ → ℤ → ℤ
+dot (a ∷ b ∷ c ∷ []) x y z = a *ℤ x +ℤ b *ℤ y +ℤ c *ℤ z
+dot _ x y z = pos 0
 
 -- the space holds the point (x/w, y/w, z/w) at the moment n/d
 abbrev pub HoldsPoint : {E : Type 0} → Holding E → Space E → ℕ → ℕ → ℤ → ℤ → ℤ → ℕ → Type 0

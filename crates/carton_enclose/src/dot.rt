@@ -1,7 +1,7 @@
 ghost use Rattle.std.specs.Prelude.{ℕ, ◌^◌, ◌<◌, ◌≤◌, ◌+◌, ℤ, ◌*ℤ◌};
 ghost use Rattle.carton_base.specs.Moments.{IsMoment};
 ghost use Rattle.carton_base.specs.Directions.{IsSign};
-ghost use Rattle.carton_enclose.specs.Points.{AreSigns, along, HoldsPoint};
+ghost use Rattle.carton_enclose.specs.Points.{AreSigns, dot, HoldsPoint};
 
 use crate::{Enclose, Space};
 
@@ -27,7 +27,7 @@ pub fn dot3<E: Enclose>(v: [i8; 3], p: Space<E>) -> E
     requires y { E.size p.y ≤ 2 ^ 82 }
     requires z { E.size p.z ≤ 2 ^ 82 }
     ensures holds { (n d : ℕ) (x y z : ℤ) (w : ℕ) → IsMoment n d → 0 < w → HoldsPoint E.holds p n d x y z w
-        → E.holds result n d (along v x y z) w }
+        → E.holds result n d (dot v x y z) w }
     ensures size { E.size result ≤ E.size p.x + E.size p.y + E.size p.z }
     ensures spread { E.spread result ≤ E.spread p.x + E.spread p.y + E.spread p.z }
 {

@@ -3,10 +3,8 @@ ghost use Rattle.carton_base.specs.Rounding.{unit, IsFloor, IsCeil, IsBetween};
 ghost use Rattle.carton_enclose.specs.Held.{size_of, spread_of};
 ghost use Rattle.carton_fix.specs.Corners.{least_corner_of, greatest_corner_of};
 
-use carton_base::{Bounds, ceil_div, floor_div};
+use carton_base::{Bounds, UNIT, ceil_div, floor_div};
 use carton_enclose::Enclose;
-
-const UNIT: i128 = 1 << 40;
 
 /// A number that lies from lo to hi at every moment, in units of 2^-40.
 #[derive(Clone, Copy, Debug, Drop)]

@@ -1,4 +1,3 @@
 pub mod Bytes
-pub mod Entries
-pub mod Steps
+pub mod Lists
 pub mod Accepted

@@ -1,13 +1,13 @@
 -- The rules of edges_vertices.
-use Rattle.std.specs.Prelude.{ℕ, ℤ, pos, negsuc, List, [], ◌∷◌, nat_lt, nat_eq, not, ◌&&◌, if◌then◌else◌, Option, Some, None, Result, Ok, Err}
+use Rattle.std.specs.Prelude.{ℕ, ℤ, pos, negsuc, List, [], ◌∷◌, nat_lt, nat_eq, not, ◌&&◌, if◌then◌else◌, Option, Some, None, Result, Ok, Err, ok_or}
 use Rattle.serde_json.specs.Data.{Data}
 use Rattle.carton_base.specs.declared.dieline.Ends.{Ends}
-use Rattle.carton_model.specs.Dielines.{most_edges}
+use Rattle.carton_base.specs.declared.limits.TheConstants.{MOST_EDGES}
 use Rattle.carton_fold.specs.declared.error.Key.TheVariants.{Edges}
 use Rattle.carton_fold.specs.declared.error.FoldError.{FoldError}
 use Rattle.carton_fold.specs.declared.error.FoldError.TheVariants.{BadShape, NotWhole, BadVertex}
-use Rattle.carton_fold.specs.Steps.{◌>>=◌, ok_or, refuse_if}
-use Rattle.carton_fold.specs.Values.{list_in, is_number, whole, list_at, entries_from}
+use Rattle.carton_base.specs.Steps.{◌>>=◌, refuse_if, entries_from}
+use Rattle.carton_fold.specs.Values.{list_in, is_number, whole, list_at}
 
 -- the number of one of so many vertices, if it is one
 abbrev pub vertex_among : ℕ → ℤ → Option ℕ
@@ -18,10 +18,10 @@ vertex_among vertices (negsuc n) = None
 unfoldable pub edge_between : ℕ → ℕ → Data → Data → Result Ends FoldError
 edge_between vertices i a b = do
   fine ← refuse_if (not (is_number a && is_number b)) (BadShape Edges)
-  from ← ok_or (NotWhole Edges i) (whole a)
-  to ← ok_or (NotWhole Edges i) (whole b)
-  p ← ok_or (BadVertex Edges i) (vertex_among vertices from)
-  q ← ok_or (BadVertex Edges i) (vertex_among vertices to)
+  from ← ok_or (whole a) (NotWhole Edges i)
+  to ← ok_or (whole b) (NotWhole Edges i)
+  p ← ok_or (vertex_among vertices from) (BadVertex Edges i)
+  q ← ok_or (vertex_among vertices to) (BadVertex Edges i)
   if nat_eq p q then Err (BadVertex Edges i) else Ok (record { p = p; q = q })
 
 -- edge i of its numbers
@@ -31,8 +31,8 @@ edge_of_parts vertices i _ = Err (BadShape Edges)
 
 -- edge i
 abbrev pub edge_of : ℕ → ℕ → Data → Result Ends FoldError
-edge_of vertices i d = ok_or (BadShape Edges) (list_in d) >>= edge_of_parts vertices i
+edge_of vertices i d = ok_or (list_in d) (BadShape Edges) >>= edge_of_parts vertices i
 
 -- the edges of a file with so many vertices
 abbrev pub edges_in : ℕ → Data → Result (List Ends) FoldError
-edges_in vertices d = list_at Edges most_edges d >>= entries_from (edge_of vertices) 0
+edges_in vertices d = list_at Edges MOST_EDGES d >>= entries_from (edge_of vertices) 0

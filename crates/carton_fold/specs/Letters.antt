@@ -1,15 +1,15 @@
 -- The rules of edges_assignment.
-use Rattle.std.specs.Prelude.{ℕ, List, length, nat_eq, not, bytes_eq, replicate, if◌then◌else◌, Option, Some, None, Result, Ok, Err, codes}
+use Rattle.std.specs.Prelude.{ℕ, List, length, nat_eq, not, bytes_eq, replicate, if◌then◌else◌, Option, Some, None, Result, Ok, Err, codes, ok_or}
 use Rattle.serde_json.specs.Data.{Data}
 use Rattle.serde_json.specs.Find.{as_str}
 use Rattle.carton_base.specs.declared.dieline.Letter.{Letter}
 use Rattle.carton_base.specs.declared.dieline.Letter.TheVariants.{Boundary, Mountain, Valley, Flat, Unassigned, Cut}
-use Rattle.carton_model.specs.Dielines.{most_edges}
+use Rattle.carton_base.specs.declared.limits.TheConstants.{MOST_EDGES}
 use Rattle.carton_fold.specs.declared.error.Key.TheVariants.{Assignment}
 use Rattle.carton_fold.specs.declared.error.FoldError.{FoldError}
 use Rattle.carton_fold.specs.declared.error.FoldError.TheVariants.{BadShape, BadLetter, JoinEdge}
-use Rattle.carton_fold.specs.Steps.{◌>>=◌, ok_or, refuse_if}
-use Rattle.carton_fold.specs.Values.{list_at, entries_from}
+use Rattle.carton_base.specs.Steps.{◌>>=◌, refuse_if, entries_from}
+use Rattle.carton_fold.specs.Values.{list_at}
 
 -- the letter of edge i by its text
 unfoldable pub letter_of_text : ℕ → List ℕ → Result Letter FoldError
@@ -24,12 +24,12 @@ letter_of_text i text =
 
 -- the letter of edge i
 abbrev pub letter_of : ℕ → Data → Result Letter FoldError
-letter_of i d = ok_or (BadShape Assignment) (as_str d) >>= letter_of_text i
+letter_of i d = ok_or (as_str d) (BadShape Assignment) >>= letter_of_text i
 
 -- the letters of a list that a file with so many edges has
 unfoldable pub letters_told : ℕ → Data → Result (List Letter) FoldError
 letters_told edges d = do
-  list ← list_at Assignment most_edges d
+  list ← list_at Assignment MOST_EDGES d
   fine ← refuse_if (not (nat_eq (length list) edges)) (BadShape Assignment)
   entries_from letter_of 0 list
 

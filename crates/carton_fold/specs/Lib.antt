@@ -1,4 +1,4 @@
-pub mod Steps
+pub mod Entries
 pub mod Values
 pub mod Vertices
 pub mod Edges

@@ -1,5 +1,5 @@
 -- What the rules ask of a JSON value.
-use Rattle.std.specs.Prelude.{ℕ, ◌+◌, ℤ, List, [], ◌∷◌, length, nat_lt, Bool, if◌then◌else◌, Option, None, option_map, option_and_then, is_some, Result, Ok, codes}
+use Rattle.std.specs.Prelude.{ℕ, ℤ, List, [], ◌∷◌, length, nat_lt, Bool, if◌then◌else◌, Option, None, option_map, option_and_then, is_some, Result, Ok, codes, ok_or}
 use Rattle.std.specs.Str.{is_utf8}
 use Rattle.serde_json.specs.Data.{Data, Items, no_items, item}
 use Rattle.serde_json.specs.Find.{get, as_array, as_number, as_integer}
@@ -8,11 +8,11 @@ use Rattle.carton_fold.specs.declared.error.Key.{Key}
 use Rattle.carton_fold.specs.declared.error.Key.TheVariants.{Vertices, Edges, Assignment, Faces}
 use Rattle.carton_fold.specs.declared.error.FoldError.{FoldError}
 use Rattle.carton_fold.specs.declared.error.FoldError.TheVariants.{NotJson, Missing, BadShape, TooMany}
-use Rattle.carton_fold.specs.Steps.{◌>>=◌, ok_or, refuse_if}
+use Rattle.carton_base.specs.Steps.{◌>>=◌, refuse_if}
 
 -- the JSON value of bytes that are UTF-8
 unfoldable pub value_in : List ℕ → Result Data FoldError
-value_in bytes = ok_or NotJson (if is_utf8 bytes then read bytes else None)
+value_in bytes = ok_or (if is_utf8 bytes then read bytes else None) NotJson
 
 -- the items as a list
 abbrev pub elements : Items → List Data
@@ -39,19 +39,11 @@ name_of Faces = codes "faces_vertices"
 
 -- the value of a key that a file must have
 abbrev pub needed : Key → Data → Result Data FoldError
-needed key d = ok_or (Missing key) (get (name_of key) d)
+needed key d = ok_or (get (name_of key) d) (Missing key)
 
 -- the entries of a key's list, of which there are at most so many
 unfoldable pub list_at : Key → ℕ → Data → Result (List Data) FoldError
 list_at key most d = do
-  list ← ok_or (BadShape key) (list_in d)
+  list ← ok_or (list_in d) (BadShape key)
   fine ← refuse_if (nat_lt most (length list)) (TooMany key)
   Ok list
-
--- the entries from the i-th on, each by the rules of an entry
-unfoldable pub entries_from : {A : Type 0} → (ℕ → Data → Result A FoldError) → ℕ → List Data → Result (List A) FoldError
-entries_from entry i [] = Ok []
-entries_from entry i (d ∷ ds) = do
-  x ← entry i d
-  xs ← entries_from entry (i + 1) ds
-  Ok (x ∷ xs)

@@ -1,39 +1,39 @@
 -- The rules of vertices_coords.
-use Rattle.std.specs.Prelude.{ℕ, ℤ, pos, unsigned_abs, List, [], ◌∷◌, nat_lt, Bool, not, ◌&&◌, ◌||◌, if◌then◌else◌, Result, Ok, Err}
+use Rattle.std.specs.Prelude.{ℕ, ℤ, pos, unsigned_abs, List, [], ◌∷◌, nat_lt, Bool, not, ◌&&◌, ◌||◌, if◌then◌else◌, Result, Ok, Err, ok_or}
 use Rattle.std.specs.Ordering.{int_eq}
 use Rattle.serde_json.specs.Data.{Data}
 use Rattle.carton_base.specs.declared.dieline.Point.{Point}
-use Rattle.carton_model.specs.Dielines.{most_vertices, farthest}
+use Rattle.carton_base.specs.declared.limits.TheConstants.{MOST_VERTICES, FARTHEST}
 use Rattle.carton_fold.specs.declared.error.Key.TheVariants.{Vertices}
 use Rattle.carton_fold.specs.declared.error.FoldError.{FoldError}
 use Rattle.carton_fold.specs.declared.error.FoldError.TheVariants.{BadShape, NotWhole, TooFar, NotFlat}
-use Rattle.carton_fold.specs.Steps.{◌>>=◌, ok_or, refuse_if}
-use Rattle.carton_fold.specs.Values.{list_in, is_number, whole, list_at, entries_from}
+use Rattle.carton_base.specs.Steps.{◌>>=◌, refuse_if, entries_from}
+use Rattle.carton_fold.specs.Values.{list_in, is_number, whole, list_at}
 
 -- outside -8191..8191
 abbrev pub is_far : ℤ → Bool
-is_far z = nat_lt farthest (unsigned_abs z)
+is_far z = nat_lt FARTHEST (unsigned_abs z)
 
 -- vertex i at its two coordinates
-abbrev pub place : ℕ → ℤ → ℤ → Result Point FoldError
-place i x y = if is_far x || is_far y then Err (TooFar i) else Ok (record { x = x; y = y })
+abbrev pub vertex_at : ℕ → ℤ → ℤ → Result Point FoldError
+vertex_at i x y = if is_far x || is_far y then Err (TooFar i) else Ok (record { x = x; y = y })
 
 -- vertex i of two numbers
 unfoldable pub point_in_plane : ℕ → Data → Data → Result Point FoldError
 point_in_plane i a b = do
   fine ← refuse_if (not (is_number a && is_number b)) (BadShape Vertices)
-  x ← ok_or (NotWhole Vertices i) (whole a)
-  y ← ok_or (NotWhole Vertices i) (whole b)
-  place i x y
+  x ← ok_or (whole a) (NotWhole Vertices i)
+  y ← ok_or (whole b) (NotWhole Vertices i)
+  vertex_at i x y
 
 -- vertex i of three numbers, the last of which must be 0
 unfoldable pub point_in_space : ℕ → Data → Data → Data → Result Point FoldError
 point_in_space i a b c = do
   fine ← refuse_if (not (is_number a && is_number b && is_number c)) (BadShape Vertices)
-  x ← ok_or (NotWhole Vertices i) (whole a)
-  y ← ok_or (NotWhole Vertices i) (whole b)
-  z ← ok_or (NotWhole Vertices i) (whole c)
-  point ← place i x y
+  x ← ok_or (whole a) (NotWhole Vertices i)
+  y ← ok_or (whole b) (NotWhole Vertices i)
+  z ← ok_or (whole c) (NotWhole Vertices i)
+  point ← vertex_at i x y
   if int_eq z (pos 0) then Ok point else Err (NotFlat i)
 
 -- vertex i of its numbers
@@ -44,8 +44,8 @@ point_of_parts i _ = Err (BadShape Vertices)
 
 -- vertex i
 abbrev pub point_of : ℕ → Data → Result Point FoldError
-point_of i d = ok_or (BadShape Vertices) (list_in d) >>= point_of_parts i
+point_of i d = ok_or (list_in d) (BadShape Vertices) >>= point_of_parts i
 
 -- the vertices of a file
 abbrev pub vertices_in : Data → Result (List Point) FoldError
-vertices_in d = list_at Vertices most_vertices d >>= entries_from point_of 0
+vertices_in d = list_at Vertices MOST_VERTICES d >>= entries_from point_of 0

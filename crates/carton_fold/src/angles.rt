@@ -1,6 +1,6 @@
 ghost use Rattle.std.specs.Prelude.{◌≡◌, ◌≤◌, ◌<◌, length, map, option_map, Ok};
 ghost use Rattle.serde_json.specs.View.{view};
-ghost use Rattle.carton_fold.specs.Steps.{Gives};
+ghost use Rattle.carton_base.specs.Steps.{Gives};
 ghost use Rattle.carton_fold.specs.Angles.{stop_at as stop_at_in, stop_of as stop_of_in, stops_of, angles_in};
 
 use crate::error::FoldError;
@@ -34,13 +34,9 @@ fn stop_of(value: &Value) -> Option<Stop>
 }
 
 fn stops(alloc: Global, list: &[Value]) -> Result<Vec<Option<Stop>>, FoldError>
-    ensures { Gives (λ v. v.items) result (Ok (map stop_of_in (map view list.now))) }
+    ensures { Gives FoldError.Memory (λ v. v.items) result (Ok (map stop_of_in (map view list.now))) }
 {
-    let mut found = Vec::new(alloc);
-    for value in list {
-        found.push(stop_of(value))?;
-    }
-    Ok(found)
+    Ok(list.iter().map(|value| stop_of(value)).collect(alloc)?)
 }
 
 /// The stops of a file with so many edges, where it tells an angle for each of them. An angle at
@@ -50,7 +46,7 @@ pub fn read_angles(
     edges: usize,
     value: Option<&Value>,
 ) -> Result<Option<Listed<Option<Stop>>>, FoldError>
-    ensures { Gives (λ a. a) result (Ok (angles_in edges (option_map (λ v. view v.now) value.entry))) }
+    ensures { Gives FoldError.Memory (λ a. a) result (Ok (angles_in edges (option_map (λ v. view v.now) value.entry))) }
 {
     let Some(list) = value.and_then(|value| list_of(value)) else {
         return Ok(None);

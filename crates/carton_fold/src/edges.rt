@@ -1,18 +1,14 @@
 ghost use Rattle.std.specs.Prelude.{◌≡◌, ◌≤◌, ◌<◌, length, map, IfOk};
 ghost use Rattle.serde_json.specs.View.{view};
-ghost use Rattle.carton_model.specs.Dielines.{most_edges};
-ghost use Rattle.carton_fold.specs.Steps.{Gives};
-ghost use Rattle.carton_fold.specs.Values.{entries_from};
+ghost use Rattle.carton_base.specs.Steps.{Gives, entries_from};
 ghost use Rattle.carton_fold.specs.Edges.{vertex_among as vertex_among_in, edge_between as edge_between_in, edge_of_parts, edge_of, edges_in};
 
+use crate::entries::entries;
 use crate::error::{FoldError, Key};
 use crate::values::{is_number, list_at, list_of, whole};
-use carton_base::Ends;
+use carton_base::{Ends, MOST_EDGES};
 use serde_json::Value;
 use std::alloc::Global;
-
-/// The most edges, and so the most letters.
-pub const MOST_EDGES: usize = 2048;
 
 /// The number of one of so many vertices, if it is one.
 pub fn vertex_among(vertices: u16, number: i128) -> Option<u16>
@@ -62,21 +58,10 @@ fn edge(vertices: u16, i: u32, value: &Value) -> Result<Ends, FoldError>
     }
 }
 
-fn edges(alloc: Global, vertices: u16, list: &[Value]) -> Result<Vec<Ends>, FoldError>
-    requires { length list.now ≤ most_edges }
-    ensures { Gives (λ v. v.items) result (entries_from (edge_of vertices) 0 (map view list.now)) }
-{
-    let mut found = Vec::new(alloc);
-    for (i, value) in list.iter().enumerate() {
-        found.push(edge(vertices, i as u32, value)?)?;
-    }
-    Ok(found)
-}
-
 /// The edges of a file with so many vertices.
 pub fn read_edges(alloc: Global, vertices: u16, value: &Value) -> Result<Vec<Ends>, FoldError>
-    ensures { Gives (λ v. v.items) result (edges_in vertices (view value.now)) }
+    ensures { Gives FoldError.Memory (λ v. v.items) result (edges_in vertices (view value.now)) }
 {
     let list = list_at(Key::Edges, MOST_EDGES, value)?;
-    edges(alloc, vertices, list)
+    entries(alloc, list, |i, value| edge(vertices, i, value))
 }

@@ -1,21 +1,17 @@
 ghost use Rattle.std.specs.Prelude.{◌≡◌, ◌≤◌, ◌<◌, length, map};
 ghost use Rattle.std.specs.List.{list_all};
 ghost use Rattle.serde_json.specs.View.{view};
-ghost use Rattle.carton_model.specs.Dielines.{most_faces};
-ghost use Rattle.carton_fold.specs.Steps.{Gives};
-ghost use Rattle.carton_fold.specs.Values.{entries_from, is_number as is_number_in};
+ghost use Rattle.carton_base.specs.Steps.{Gives, entries_from};
+ghost use Rattle.carton_fold.specs.Values.{is_number as is_number_in};
 ghost use Rattle.carton_fold.specs.Faces.{is_whole as is_whole_in, corner_of, face_of_parts, face_of, faces_in};
 
 use crate::edges::vertex_among;
+use crate::entries::entries;
 use crate::error::{FoldError, Key};
 use crate::values::{is_number, list_at, list_of, whole};
-use carton_base::{Face, Listed};
+use carton_base::{Face, LEAST_CORNERS, Listed, MOST_CORNERS, MOST_PANELS};
 use serde_json::Value;
 use std::alloc::Global;
-
-const MOST_FACES: usize = 24;
-
-const MOST_CORNERS: usize = 32;
 
 fn are_numbers(parts: &[Value]) -> bool
     ensures { result ≡ list_all is_number_in (map view parts.now) }
@@ -37,21 +33,11 @@ fn corner(vertices: u16, i: u32, value: &Value) -> Result<u16, FoldError>
         .ok_or(FoldError::BadVertex(Key::Faces, i))
 }
 
-fn corners(alloc: Global, vertices: u16, i: u32, parts: &[Value]) -> Result<Vec<u16>, FoldError>
-    ensures { Gives (λ v. v.items) result (entries_from (corner_of vertices i) 0 (map view parts.now)) }
-{
-    let mut found = Vec::new(alloc);
-    for value in parts {
-        found.push(corner(vertices, i, value)?)?;
-    }
-    Ok(found)
-}
-
 #[tactic(auto, unfolding(crate::specs::Faces::face_of_parts))]
 fn face_by_parts(alloc: Global, vertices: u16, i: u32, parts: &[Value]) -> Result<Face, FoldError>
-    ensures { Gives (λ f. f) result (face_of_parts vertices i (map view parts.now)) }
+    ensures { Gives FoldError.Memory (λ f. f) result (face_of_parts vertices i (map view parts.now)) }
 {
-    if parts.len() < 3 || !are_numbers(parts) {
+    if parts.len() < LEAST_CORNERS || !are_numbers(parts) {
         return Err(FoldError::BadShape(Key::Faces));
     }
     if MOST_CORNERS < parts.len() {
@@ -60,14 +46,14 @@ fn face_by_parts(alloc: Global, vertices: u16, i: u32, parts: &[Value]) -> Resul
     if !are_whole(parts) {
         return Err(FoldError::NotWhole(Key::Faces, i));
     }
-    let corners = corners(alloc, vertices, i, parts)?;
+    let corners = entries(alloc, parts, |_, part| corner(vertices, i, part))?;
     Ok(Face {
         corners: Listed::from_vec(corners),
     })
 }
 
 fn face(alloc: Global, vertices: u16, i: u32, value: &Value) -> Result<Face, FoldError>
-    ensures { Gives (λ f. f) result (face_of vertices i (view value.now)) }
+    ensures { Gives FoldError.Memory (λ f. f) result (face_of vertices i (view value.now)) }
 {
     match list_of(value) {
         Some(parts) => face_by_parts(alloc, vertices, i, parts),
@@ -75,25 +61,14 @@ fn face(alloc: Global, vertices: u16, i: u32, value: &Value) -> Result<Face, Fol
     }
 }
 
-fn faces(alloc: Global, vertices: u16, list: &[Value]) -> Result<Vec<Face>, FoldError>
-    requires { length list.now ≤ most_faces }
-    ensures { Gives (λ v. v.items) result (entries_from (face_of vertices) 0 (map view list.now)) }
-{
-    let mut found = Vec::new(alloc);
-    for (i, value) in list.iter().enumerate() {
-        found.push(face(alloc, vertices, i as u32, value)?)?;
-    }
-    Ok(found)
-}
-
 /// The faces of a file with so many vertices.
 #[tactic(auto, unfolding(crate::specs::Faces::faces_in))]
 pub fn read_faces(alloc: Global, vertices: u16, value: &Value) -> Result<Vec<Face>, FoldError>
-    ensures { Gives (λ v. v.items) result (faces_in vertices (view value.now)) }
+    ensures { Gives FoldError.Memory (λ v. v.items) result (faces_in vertices (view value.now)) }
 {
-    let list = list_at(Key::Faces, MOST_FACES, value)?;
+    let list = list_at(Key::Faces, MOST_PANELS, value)?;
     if list.is_empty() {
         return Err(FoldError::BadShape(Key::Faces));
     }
-    faces(alloc, vertices, list)
+    entries(alloc, list, |i, value| face(alloc, vertices, i, value))
 }

@@ -1,14 +1,12 @@
 ghost use Rattle.std.specs.Prelude.{◌≡◌, ◌≤◌, ◌<◌, length, map, option_map};
 ghost use Rattle.serde_json.specs.View.{view};
-ghost use Rattle.carton_model.specs.Dielines.{most_edges};
-ghost use Rattle.carton_fold.specs.Steps.{Gives};
-ghost use Rattle.carton_fold.specs.Values.{entries_from};
+ghost use Rattle.carton_base.specs.Steps.{Gives, entries_from};
 ghost use Rattle.carton_fold.specs.Letters.{letter_of_text, letter_of, letters_told as letters_told_in, letters_in};
 
-use crate::edges::MOST_EDGES;
+use crate::entries::entries;
 use crate::error::{FoldError, Key};
 use crate::values::list_at;
-use carton_base::Letter;
+use carton_base::{Letter, MOST_EDGES};
 use serde_json::Value;
 use std::alloc::Global;
 
@@ -37,26 +35,15 @@ fn letter(i: u32, value: &Value) -> Result<Letter, FoldError>
     }
 }
 
-fn letters(alloc: Global, list: &[Value]) -> Result<Vec<Letter>, FoldError>
-    requires { length list.now ≤ most_edges }
-    ensures { Gives (λ v. v.items) result (entries_from letter_of 0 (map view list.now)) }
-{
-    let mut found = Vec::new(alloc);
-    for (i, value) in list.iter().enumerate() {
-        found.push(letter(i as u32, value)?)?;
-    }
-    Ok(found)
-}
-
 #[tactic(auto, unfolding(crate::specs::Letters::letters_told))]
 fn letters_told(alloc: Global, edges: usize, value: &Value) -> Result<Vec<Letter>, FoldError>
-    ensures { Gives (λ v. v.items) result (letters_told_in edges (view value.now)) }
+    ensures { Gives FoldError.Memory (λ v. v.items) result (letters_told_in edges (view value.now)) }
 {
     let list = list_at(Key::Assignment, MOST_EDGES, value)?;
     if list.len() != edges {
         return Err(FoldError::BadShape(Key::Assignment));
     }
-    letters(alloc, list)
+    entries(alloc, list, |i, value| letter(i, value))
 }
 
 /// The letters of a file with so many edges, all of them U where it tells none.
@@ -65,7 +52,7 @@ pub fn read_letters(
     edges: usize,
     value: Option<&Value>,
 ) -> Result<Vec<Letter>, FoldError>
-    ensures { Gives (λ v. v.items) result (letters_in edges (option_map (λ v. view v.now) value.entry)) }
+    ensures { Gives FoldError.Memory (λ v. v.items) result (letters_in edges (option_map (λ v. view v.now) value.entry)) }
 {
     match value {
         Some(value) => letters_told(alloc, edges, value),

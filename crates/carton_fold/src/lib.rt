@@ -3,6 +3,7 @@
 
 mod angles;
 mod edges;
+mod entries;
 mod error;
 mod faces;
 mod letters;

@@ -1,29 +1,24 @@
 ghost use Rattle.std.specs.Prelude.{◌≡◌, ◌≤◌, ◌<◌, length, map, unsigned_abs, IfOk};
 ghost use Rattle.serde_json.specs.View.{view};
-ghost use Rattle.carton_model.specs.Dielines.{most_vertices};
-ghost use Rattle.carton_fold.specs.Steps.{Gives};
-ghost use Rattle.carton_fold.specs.Values.{entries_from};
-ghost use Rattle.carton_fold.specs.Vertices.{is_far as is_far_in, place as place_in, point_in_plane, point_in_space, point_of_parts, point_of, vertices_in};
+ghost use Rattle.carton_base.specs.Steps.{Gives, entries_from};
+ghost use Rattle.carton_fold.specs.Vertices.{is_far as is_far_in, vertex_at as vertex_at_in, point_in_plane, point_in_space, point_of_parts, point_of, vertices_in};
 
+use crate::entries::entries;
 use crate::error::{FoldError, Key};
 use crate::values::{is_number, list_at, list_of, whole};
-use carton_base::Point;
+use carton_base::{FARTHEST, MOST_VERTICES, Point};
 use serde_json::Value;
 use std::alloc::Global;
-
-const MOST_VERTICES: usize = 1024;
-
-const FARTHEST: u128 = 8191;
 
 /// Whether a coordinate lies outside -8191..8191.
 fn is_far(z: i128) -> bool
     ensures { result ≡ is_far_in z }
 {
-    FARTHEST < z.unsigned_abs()
+    u128::from(FARTHEST) < z.unsigned_abs()
 }
 
-fn place(i: u32, x: i128, y: i128) -> Result<Point, FoldError>
-    ensures { result ≡ place_in i x y }
+fn vertex_at(i: u32, x: i128, y: i128) -> Result<Point, FoldError>
+    ensures { result ≡ vertex_at_in i x y }
 {
     if is_far(x) || is_far(y) {
         return Err(FoldError::TooFar(i));
@@ -44,7 +39,7 @@ fn plane_point(i: u32, a: &Value, b: &Value) -> Result<Point, FoldError>
     let not_whole = FoldError::NotWhole(Key::Vertices, i);
     let x = whole(a).ok_or(not_whole)?;
     let y = whole(b).ok_or(not_whole)?;
-    place(i, x, y)
+    vertex_at(i, x, y)
 }
 
 #[tactic(auto, unfolding(crate::specs::Vertices::point_in_space))]
@@ -58,7 +53,7 @@ fn space_point(i: u32, a: &Value, b: &Value, c: &Value) -> Result<Point, FoldErr
     let x = whole(a).ok_or(not_whole)?;
     let y = whole(b).ok_or(not_whole)?;
     let z = whole(c).ok_or(not_whole)?;
-    let point = place(i, x, y)?;
+    let point = vertex_at(i, x, y)?;
     if z != 0 {
         return Err(FoldError::NotFlat(i));
     }
@@ -84,23 +79,11 @@ fn point(i: u32, value: &Value) -> Result<Point, FoldError>
     }
 }
 
-fn points(alloc: Global, list: &[Value]) -> Result<Vec<Point>, FoldError>
-    requires { length list.now ≤ most_vertices }
-    ensures value { Gives (λ v. v.items) result (entries_from point_of 0 (map view list.now)) }
-    ensures few { IfOk result (λ v. length v.items ≤ most_vertices) }
-{
-    let mut found = Vec::new(alloc);
-    for (i, value) in list.iter().enumerate() {
-        found.push(point(i as u32, value)?)?;
-    }
-    Ok(found)
-}
-
 /// The vertices of a file.
 pub fn read_points(alloc: Global, value: &Value) -> Result<Vec<Point>, FoldError>
-    ensures value { Gives (λ v. v.items) result (vertices_in (view value.now)) }
-    ensures few { IfOk result (λ v. length v.items ≤ most_vertices) }
+    ensures value { Gives FoldError.Memory (λ v. v.items) result (vertices_in (view value.now)) }
+    ensures few { IfOk result (λ v. length v.items ≤ MOST_VERTICES) }
 {
     let list = list_at(Key::Vertices, MOST_VERTICES, value)?;
-    points(alloc, list)
+    entries(alloc, list, |i, value| point(i, value))
 }

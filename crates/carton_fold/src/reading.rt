@@ -1,6 +1,6 @@
 ghost use Rattle.std.specs.Prelude.{IfOk};
 ghost use Rattle.serde_json.specs.View.{view};
-ghost use Rattle.carton_fold.specs.Steps.{Gives};
+ghost use Rattle.carton_base.specs.Steps.{Gives};
 ghost use Rattle.carton_model.specs.Dielines.{IsDieline};
 ghost use Rattle.carton_fold.specs.Dieline.{dieline_in, dieline_of};
 
@@ -17,7 +17,7 @@ use std::alloc::Global;
 
 #[tactic(auto, unfolding(crate::specs::Dieline::dieline_in))]
 fn dieline_of_value(alloc: Global, value: &Value) -> Result<RawDieline, FoldError>
-    ensures { Gives (λ d. d) result (dieline_in (view value.now)) }
+    ensures { Gives FoldError.Memory (λ d. d) result (dieline_in (view value.now)) }
 {
     if !value.is_object() {
         return Err(FoldError::NotObject);
@@ -46,9 +46,9 @@ fn dieline_of_value(alloc: Global, value: &Value) -> Result<RawDieline, FoldErro
 /// # Errors
 ///
 /// The first rule that the file breaks, or `Memory`.
-#[tactic(auto, unfolding(crate::specs::Dieline::dieline_of))]
+#[tactic(auto, using(crate::proofs::Accepted::keeps_rules), unfolding(crate::specs::Dieline::dieline_of))]
 pub fn read_dieline(alloc: Global, bytes: &[u8]) -> Result<RawDieline, FoldError>
-    ensures reads { Gives (λ d. d) result (dieline_of bytes.now) }
+    ensures reads { Gives FoldError.Memory (λ d. d) result (dieline_of bytes.now) }
     ensures keeps_rules { IfOk result IsDieline }
 {
     let value = value_of(alloc, bytes)?;

@@ -1,6 +1,6 @@
 ghost use Rattle.std.specs.Prelude.{◌≡◌, ◌≤◌, length, map, option_map, IfOk};
 ghost use Rattle.serde_json.specs.View.{view};
-ghost use Rattle.carton_fold.specs.Steps.{Gives};
+ghost use Rattle.carton_base.specs.Steps.{Gives};
 ghost use Rattle.carton_fold.specs.Values.{value_in, list_in, is_number as is_number_in, whole as whole_in, needed as needed_in, list_at as list_at_in};
 
 use crate::error::{FoldError, Key};
@@ -9,7 +9,7 @@ use std::alloc::Global;
 
 /// The JSON value of the bytes of a file.
 pub fn value_of(alloc: Global, bytes: &[u8]) -> Result<Value, FoldError>
-    ensures { Gives view result (value_in bytes.now) }
+    ensures { Gives FoldError.Memory view result (value_in bytes.now) }
 {
     match Value::from_slice(alloc, bytes) {
         Ok(value) => Ok(value),
@@ -49,7 +49,7 @@ pub fn whole(value: &Value) -> Option<i128>
 
 /// The value of a key that a file must have.
 pub fn needed(value: &Value, key: Key) -> Result<&Value, FoldError>
-    ensures { Gives (λ v. view v.now) result (needed_in key (view value.now)) }
+    ensures { Gives FoldError.Memory (λ v. view v.now) result (needed_in key (view value.now)) }
 {
     match value.get(key.name()) {
         Some(found) => Ok(found),
@@ -60,7 +60,7 @@ pub fn needed(value: &Value, key: Key) -> Result<&Value, FoldError>
 /// The entries of a key's list, of which there are at most so many.
 #[tactic(auto, unfolding(crate::specs::Values::list_at))]
 pub fn list_at(key: Key, most: usize, value: &Value) -> Result<&[Value], FoldError>
-    ensures value { Gives (λ s. map view s.now) result (list_at_in key most (view value.now)) }
+    ensures value { Gives FoldError.Memory (λ s. map view s.now) result (list_at_in key most (view value.now)) }
     ensures few { IfOk result (λ s. length s.now ≤ most) }
 {
     let Some(list) = list_of(value) else {

@@ -8,7 +8,7 @@ use Rattle.carton_model.specs.HalfTurns.{cosine, sine, square_sum, moving, Leads
 use Rattle.carton_halfturn.specs.Ranges.{Middle, Over, Under}
 use Rattle.carton_base.proofs.Polynomials.{laid_out, sums}
 use Rattle.carton_halfturn.proofs.Mirrored.{sine_of, cosine_of, squares_of}
-use Rattle.carton_halfturn.proofs.Folds.{by_mirror, cosine_middle, cosine_over, cosine_under}
+use Rattle.carton_halfturn.proofs.HalfPairs.{by_mirror, cosine_middle, cosine_over, cosine_under}
 use Rattle.carton_halfturn.proofs.Chords.{Bend, bend_negated, Steps, sine_bends, cosine_bends}
 use Rattle.carton_halfturn.proofs.Peaks.{scaled_le, moving_above, moving_below}
 use Rattle.carton_halfturn.proofs.Rates.{Gains}
@@ -87,12 +87,15 @@ turned_under n d p e low high = by_lt_z n (neg_ℤ (pos d))
     let b = by_mirror n d p (inl m) in
     record { cosine_by = cosine_middle n d p m ∙ right_down p (pos d) p (omega (arith, ints)) (omega (arith, ints)); sine_by = b.sine_by; squares_by = b.squares_by })
 
--- cosine and sine of the fold from a / e to b / e leave their chords by little
+-- a value f of the fold from a / e to b / e leaves its chord by little
+abbrev pub Bends : (ℤ → ℕ → ℤ) → ℤ → ℤ → ℕ → ℕ → ℕ → ℤ → Type 0
+Bends f a b e n d g = Bend (pos d) (pos n) (pos e) g (f (moving a b n d) (e * d)) (pos (square_sum (moving a b n d) (e * d))) (f (a *ℤ pos d) (e * d)) (pos (square_sum (a *ℤ pos d) (e * d))) (f (b *ℤ pos d) (e * d)) (pos (square_sum (b *ℤ pos d) (e * d)))
+
 pub record Bent (a b : ℤ) (e n d : ℕ) : Type 0 where
   pub g : ℤ
   pub square : g *ℤ g ≡ (b -ℤ a) *ℤ (b -ℤ a)
-  pub cosines : Bend (pos d) (pos n) (pos e) g (cosine (moving a b n d) (e * d)) (pos (square_sum (moving a b n d) (e * d))) (cosine (a *ℤ pos d) (e * d)) (pos (square_sum (a *ℤ pos d) (e * d))) (cosine (b *ℤ pos d) (e * d)) (pos (square_sum (b *ℤ pos d) (e * d)))
-  pub sines : Bend (pos d) (pos n) (pos e) g (sine (moving a b n d) (e * d)) (pos (square_sum (moving a b n d) (e * d))) (sine (a *ℤ pos d) (e * d)) (pos (square_sum (a *ℤ pos d) (e * d))) (sine (b *ℤ pos d) (e * d)) (pos (square_sum (b *ℤ pos d) (e * d)))
+  pub cosines : Bends cosine a b e n d g
+  pub sines : Bends sine a b e n d g
 
 bent_plain : (a b : ℤ) (e n d : ℕ) (g q p r : ℤ) → g *ℤ g ≡ (b -ℤ a) *ℤ (b -ℤ a) → n ≤ d → Steps (pos d) (pos n) g q p r
     → Plain (a *ℤ pos d) (e * d) q → Plain (moving a b n d) (e * d) p → Plain (b *ℤ pos d) (e * d) r → Bent a b e n d

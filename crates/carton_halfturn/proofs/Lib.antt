@@ -1,7 +1,7 @@
 pub mod Turning
 pub mod Mirrored
 pub mod Chords
-pub mod Folds
+pub mod HalfPairs
 pub mod Roundings
 pub mod Rates
 pub mod Peaks
@@ -10,3 +10,4 @@ pub mod Sizes
 pub mod Enclosing
 pub mod Leading
 pub mod Following
+pub mod Joints

@@ -1,9 +1,9 @@
 -- Which folds of a range have the greatest sine and the greatest size.
 use Rattle.std.proofs.Common.{◌⊎◌, inl, inr, ℤ, pos, ◌+ℤ◌, ◌-ℤ◌, ◌*ℤ◌, neg_ℤ, ◌≤ℤ◌, ◌<ℤ◌, arith, refl}
 use Rattle.std.proofs.lemmas.Int.{ints, by_lt_z}
-use Rattle.carton_halfturn.specs.Ranges.{IsMirror, IsNearest, IsFarthest}
+use Rattle.carton_halfturn.specs.Ranges.{IsMirror, IsNearest, IsFarthest, IsTaken, IsHighest, IsLowest, IsOneSided}
 use Rattle.carton_base.proofs.Polynomials.{laid_out, sums, nonneg_product}
-use Rattle.carton_halfturn.proofs.Folds.{IsSize}
+use Rattle.carton_halfturn.proofs.HalfPairs.{IsSize}
 
 -- orders over one d hold over dk
 pub scaled_le : (a b k : ℤ) → pos 0 <ℤ k → a ≤ℤ b → (a *ℤ k) ≤ℤ (b *ℤ k)
@@ -39,6 +39,23 @@ mirror_at_least n d p (inl h) = omega (arith, ints, h.from, h.is)
 mirror_at_least n d p (inr (inl h)) = omega (arith, ints, h.within, h.is)
 mirror_at_least n d p (inr (inr h)) = omega (arith, ints, h.past, h.is)
 
+pub taken_within : (low high d p : ℤ) → IsTaken low high d p → (neg_ℤ d ≤ℤ p) × (p ≤ℤ d)
+taken_within low high d p t = (mirror_at_least t.fold d p t.mirrored, mirror_at_most t.fold d p t.mirrored)
+
+mirror_turned : (n d p : ℤ) → IsMirror n d p → IsMirror (neg_ℤ n) d (neg_ℤ p)
+mirror_turned n d p (inl h) = inl record { from = omega (arith, ints, h.upto); upto = omega (arith, ints, h.from); is = omega (arith, ints, h.is) }
+mirror_turned n d p (inr (inl h)) = inr (inr record { past = omega (arith, ints, h.past); within = omega (arith, ints, h.within); is = omega (arith, ints, h.is) })
+mirror_turned n d p (inr (inr h)) = inr (inl record { past = omega (arith, ints, h.past); within = omega (arith, ints, h.within); is = omega (arith, ints, h.is) })
+
+-- the highest of the turned range, turned, is the lowest
+pub taken_turned : (low high d c : ℤ) → IsTaken (neg_ℤ high) (neg_ℤ low) d c → IsTaken low high d (neg_ℤ c)
+taken_turned low high d c t = record { fold = neg_ℤ t.fold; from = omega (arith, ints, t.upto); upto = omega (arith, ints, t.from); mirrored = mirror_turned t.fold d c t.mirrored }
+
+pub lowest : (low high d c : ℤ) → IsHighest (neg_ℤ high) (neg_ℤ low) d c → IsLowest low high d (neg_ℤ c)
+lowest low high d c is k n q k0 from upto m =
+    let a = is k (neg_ℤ n) (neg_ℤ q) k0 (simp laid_out (omega (arith, ints, upto))) (simp laid_out (omega (arith, ints, from))) (mirror_turned n (d *ℤ k) q m) in
+    simp laid_out (omega (arith, ints, a))
+
 -- every fold of the span has one
 pub mirror_of : (n d : ℤ) → pos 0 ≤ℤ d → neg_ℤ (d +ℤ d) ≤ℤ n → n ≤ℤ (d +ℤ d) → (p : ℤ) × IsMirror n d p
 mirror_of n d d0 low high = by_lt_z d n
@@ -51,6 +68,15 @@ mirror_of n d d0 low high = by_lt_z d n
 pub end_highest : (l h n d pl ph p t : ℤ) → l ≤ℤ n → n ≤ℤ h → (h <ℤ d) ⊎ (d <ℤ l) → IsMirror l d pl → IsMirror h d ph → IsMirror n d p → pl ≤ℤ t → ph ≤ℤ t → p ≤ℤ t
 end_highest l h n d pl ph p t ln nh side (inl a) (inl b) (inl c) a' b' = omega (arith, ints, a.is, b.is, c.is)
 end_highest l h n d pl ph p t ln nh side a b c a' b' = omega (arith, ints)
+
+side_scaled : (low high d k : ℤ) → pos 0 <ℤ k → IsOneSided low high d → IsOneSided (low *ℤ k) (high *ℤ k) (d *ℤ k)
+side_scaled low high d k k0 (inl h) = inl (scaled_lt high d k k0 h)
+side_scaled low high d k k0 (inr h) = inr (scaled_lt d low k k0 h)
+
+-- so the greater of the mirrored ends is the highest
+pub ends_highest : (low high d first last top : ℤ) → IsOneSided low high d → IsMirror low d first → IsMirror high d last → first ≤ℤ top → last ≤ℤ top → IsHighest low high d top
+ends_highest low high d first last top side a b fa la k n q k0 from upto m =
+    end_highest (low *ℤ k) (high *ℤ k) n (d *ℤ k) (first *ℤ k) (last *ℤ k) q (top *ℤ k) from upto (side_scaled low high d k k0 side) (mirror_scaled _ _ _ k k0 a) (mirror_scaled _ _ _ k k0 b) m (scaled_le first top k k0 fa) (scaled_le last top k k0 la)
 
 -- mirrored folds differ by no more than the folds
 pub mirror_near : (m n d p q g : ℤ) → (m -ℤ n) ≤ℤ g → (n -ℤ m) ≤ℤ g → pos 0 ≤ℤ d → IsMirror m d p → IsMirror n d q → (p -ℤ q) ≤ℤ g

@@ -3,10 +3,10 @@ use Rattle.std.proofs.Common.{◌≡◌, ℕ, ◌*◌, ◌≤◌, ◌<◌, ap, s
 use Rattle.std.proofs.lemmas.Int.{ints, unsigned_abs-mul, by_lt_z}
 use Rattle.std.proofs.Math.Nat.{mul-le-mul_left}
 use Rattle.carton_base.specs.Rounding.{unit, IsBetween}
-use Rattle.carton_model.specs.HalfTurns.{half_cosine, half_sine, cosine, sine, square_sum}
+use Rattle.carton_model.specs.HalfTurns.{half_cosine, half_sine, cosine, sine, square_sum, moving}
 use Rattle.carton_base.proofs.Polynomials.{laid_out, sums, mul_add_left, nonneg_product}
 use Rattle.carton_halfturn.proofs.Peaks.{scaled_lt}
-use Rattle.carton_halfturn.proofs.Folds.{Halves, half_middle, half_over, half_under, cosine_is, sine_is, square_sum_is}
+use Rattle.carton_halfturn.proofs.HalfPairs.{Halves, half_middle, half_over, half_under, cosine_is, sine_is, square_sum_is}
 
 over_scaled : (d n k : ℤ) → d *ℤ k +ℤ d *ℤ k -ℤ n *ℤ k ≡ (d +ℤ d -ℤ n) *ℤ k
 over_scaled d n k = simp laid_out (omega (arith, sums))
@@ -68,6 +68,13 @@ encloses_scaled lo hi x v y w q q0 e f h = record {
   from = rw (e, f) (wider lo x (pos v) q unit q0 h.from);
   upto = rw (e, f) (wider_above hi x (pos v) q unit q0 h.upto);
 }
+
+-- a moving fold at the first and at the last moment
+pub at_start : (a b : ℤ) (n d : ℕ) → n ≡ 0 → moving a b n d ≡ a *ℤ pos d
+at_start a b n d e = let z : (b -ℤ a) *ℤ pos n ≡ pos 0 = rw e (omega (arith, ints)) in omega (arith, ints, z)
+
+pub at_end : (a b : ℤ) (n d : ℕ) → n ≡ d → moving a b n d ≡ b *ℤ pos d
+at_end a b n d e = rw e (simp laid_out (omega (arith, sums)))
 
 -- a span's fold at the part m / d of its piece is that of the joint at the moment n / d of the move, in w times finer parts:
 -- for a joint from s to t and the piece from i / w to (i + 1) / w, which has that moment at m = nw - id

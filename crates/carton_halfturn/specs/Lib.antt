@@ -1,4 +1,5 @@
 pub mod Spans
+pub mod Joints
 pub mod Ranges
-pub mod Rounded
+pub mod Values
 pub mod Slopes

@@ -1,5 +1,5 @@
 -- Folds that go evenly from one end to another.
-use Rattle.std.specs.Prelude.{◌≡◌, ◌⊎◌, ℕ, ◌*◌, ℤ, pos, negsuc, neg_ℤ, ◌+ℤ◌, ◌-ℤ◌, ◌*ℤ◌, ◌≤ℤ◌, ◌<ℤ◌, unsigned_abs}
+use Rattle.std.specs.Prelude.{◌≡◌, ◌⊎◌, ℕ, ◌*◌, ◌≤◌, ℤ, pos, negsuc, neg_ℤ, ◌+ℤ◌, ◌-ℤ◌, ◌*ℤ◌, ◌≤ℤ◌, unsigned_abs}
 use Rattle.carton_base.specs.Rounding.{unit, IsBetween}
 use Rattle.carton_base.specs.Moments.{IsMoment}
 use Rattle.carton_model.specs.HalfTurns.{cosine, sine, square_sum, moving, Leads}
@@ -38,12 +38,16 @@ abbrev pub LeadsSine : FoldSpan → ℤ → ℤ → Type 0
 LeadsSine f lo hi = let e = unsigned_abs f.den in
     (n d : ℕ) → IsMoment n d → Leads lo hi (sine f.from e) (square_sum f.from e) n d (sine_at f n d) (squares_at f n d)
 
+-- both ends lie from one fold to another
+pub record Within (f : FoldSpan) (low high : ℤ) : Type 0 where
+  pub from_low : low ≤ℤ f.from
+  pub from_high : f.from ≤ℤ high
+  pub to_low : low ≤ℤ f.to
+  pub to_high : f.to ≤ℤ high
+
 -- both ends lie from k to k + 1 right angles
-pub record InStretch (f : FoldSpan) (k : ℤ) : Type 0 where
-  pub from_low : (k *ℤ f.den) ≤ℤ f.from
-  pub from_high : f.from ≤ℤ ((k +ℤ pos 1) *ℤ f.den)
-  pub to_low : (k *ℤ f.den) ≤ℤ f.to
-  pub to_high : f.to ≤ℤ ((k +ℤ pos 1) *ℤ f.den)
+abbrev pub InStretch : FoldSpan → ℤ → Type 0
+InStretch f k = Within f (k *ℤ f.den) ((k +ℤ pos 1) *ℤ f.den)
 
 -- both ends lie in one of the four stretches of a right angle
 abbrev pub InOneStretch : FoldSpan → Type 0
@@ -62,18 +66,16 @@ pub record IsRangeOf (f : FoldSpan) (low high d : ℤ) : Type 0 where
 abbrev pub IsNarrow : FoldSpan → ℤ → ℤ → Type 0
 IsNarrow f lo hi = ((hi -ℤ lo) *ℤ f.den) ≤ℤ (pos (2 * unsigned_abs (f.to -ℤ f.from)) *ℤ unit +ℤ pos 2 *ℤ f.den)
 
--- both ends lie from one fold to another
-pub record Within (f : FoldSpan) (low high : ℤ) : Type 0 where
-  pub from_low : low ≤ℤ f.from
-  pub from_high : f.from ≤ℤ high
-  pub to_low : low ≤ℤ f.to
-  pub to_high : f.to ≤ℤ high
-
 -- both ends lie within a right angle, or both lie past it the same way
-abbrev pub IsSmooth : FoldSpan → Type 0
-IsSmooth f = Within f (neg_ℤ f.den) f.den ⊎ Within f f.den (f.den +ℤ f.den) ⊎ Within f (neg_ℤ (f.den +ℤ f.den)) (neg_ℤ f.den)
+abbrev pub IsOneWay : FoldSpan → Type 0
+IsOneWay f = Within f (neg_ℤ f.den) f.den ⊎ Within f f.den (f.den +ℤ f.den) ⊎ Within f (neg_ℤ (f.den +ℤ f.den)) (neg_ℤ f.den)
 
--- r units are at least 2 * ((to - from) / den)^2
-pub record IsBend (f : FoldSpan) (r : ℤ) : Type 0 where
-  pub least : ((pos 2 *ℤ ((f.to -ℤ f.from) *ℤ (f.to -ℤ f.from))) *ℤ unit) ≤ℤ (r *ℤ (f.den *ℤ f.den))
-  pub next : (r *ℤ (f.den *ℤ f.den) -ℤ f.den *ℤ f.den) <ℤ ((pos 2 *ℤ ((f.to -ℤ f.from) *ℤ (f.to -ℤ f.from))) *ℤ unit)
+-- both ends so lie, and the fold changes by at most a right angle
+pub record IsSmooth (f : FoldSpan) : Type 0 where
+  pub near : unsigned_abs (f.to -ℤ f.from) ≤ unsigned_abs f.den
+  pub one_way : IsOneWay f
+
+-- the same said of the least and the greatest fold, low / d and high / d
+pub record IsEven (low high d : ℤ) : Type 0 where
+  pub near : (high -ℤ low) ≤ℤ d
+  pub side : (d ≤ℤ low) ⊎ (high ≤ℤ neg_ℤ d) ⊎ ((neg_ℤ d ≤ℤ low) × (high ≤ℤ d))

@@ -3,12 +3,15 @@
 #![tactic(auto)]
 
 mod bounds;
+mod folds;
+mod pieces;
 mod ranges;
 mod slopes;
 mod spans;
 mod values;
 
 pub use bounds::{cos_bounds, sin_bounds};
+pub use pieces::span;
 pub use slopes::{cos_slope, sin_slope};
-pub use spans::{FoldSpan, span};
+pub use spans::FoldSpan;
 pub use values::{cos_start, sin_start};

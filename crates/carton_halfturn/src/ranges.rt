@@ -1,7 +1,8 @@
-ghost use Rattle.std.specs.Prelude.{◌≡◌, ◌*◌, ◌≤◌, ◌^◌, pos, neg_ℤ, ◌-ℤ◌, ◌≤ℤ◌, ◌<ℤ◌, unsigned_abs};
-ghost use Rattle.carton_halfturn.specs.Ranges.{IsMirror, IsNearest, IsFarthest, IsTaken, IsHighest};
+ghost use Rattle.std.specs.Prelude.{◌≡◌, ◌⊎◌, ◌*◌, ◌≤◌, ◌^◌, pos, neg_ℤ, ◌-ℤ◌, ◌≤ℤ◌, ◌<ℤ◌, unsigned_abs};
+ghost use Rattle.carton_halfturn.specs.Ranges.{IsMirror, IsNearest, IsFarthest, IsTaken, IsHighest, IsLowest, IsOneSided};
 ghost use Rattle.carton_halfturn.specs.Spans.{IsRangeOf};
 
+use crate::folds::Fold;
 use crate::spans::FoldSpan;
 
 /// The folds from low/den to high/den.
@@ -35,8 +36,8 @@ pub fn range_of(f: FoldSpan) -> Range
     }
 }
 
-/// The same folds, each turned the other way.
-pub fn turned(r: Range) -> Range
+// The same folds, each turned the other way.
+fn turned(r: Range) -> Range
     ensures low { result.low ≡ neg_ℤ r.high }
     ensures high { result.high ≡ neg_ℤ r.low }
     ensures den { result.den ≡ r.den }
@@ -48,54 +49,106 @@ pub fn turned(r: Range) -> Range
     }
 }
 
-/// The size of the fold that lies nearest to flat.
-pub fn nearest(r: Range) -> i64
-    ensures { IsNearest r.low r.high result }
+// The fold turned the other way.
+fn opposite(f: Fold) -> Fold
+    ensures num { result.num ≡ neg_ℤ f.num }
+    ensures den { result.den ≡ f.den }
 {
-    if r.low >= 0 {
+    Fold {
+        num: -f.num,
+        den: f.den,
+    }
+}
+
+/// The size of the fold that lies nearest to flat.
+pub fn nearest(r: Range) -> Fold
+    ensures den { result.den ≡ r.den }
+    ensures nearest { IsNearest r.low r.high result.num }
+{
+    let num = if r.low >= 0 {
         r.low
     } else if r.high <= 0 {
         -r.high
     } else {
         0
-    }
+    };
+    Fold { num, den: r.den }
 }
 
 /// The size of the fold that lies farthest from flat.
-pub fn farthest(r: Range) -> i64
-    ensures { IsFarthest r.low r.high result }
+pub fn farthest(r: Range) -> Fold
+    ensures den { result.den ≡ r.den }
+    ensures farthest { IsFarthest r.low r.high result.num }
 {
     let down = -r.low;
-    if r.high >= down { r.high } else { down }
+    if r.high >= down {
+        return Fold {
+            num: r.high,
+            den: r.den,
+        };
+    }
+    Fold {
+        num: down,
+        den: r.den,
+    }
 }
 
 // The fold within a right angle that has the same sine.
-fn mirrored(fold: i64, den: i64) -> i64
-    requires positive { pos 0 <ℤ den }
-    requires fine { den ≤ℤ pos (2 ^ 40) }
-    requires least { neg_ℤ (pos (2 * unsigned_abs den)) ≤ℤ fold }
-    requires greatest { fold ≤ℤ pos (2 * unsigned_abs den) }
-    ensures { IsMirror fold den result }
+fn mirrored(num: i64, r: Range) -> Fold
+    requires from { r.low ≤ℤ num }
+    requires upto { num ≤ℤ r.high }
+    ensures den { result.den ≡ r.den }
+    ensures mirror { IsMirror num r.den result.num }
 {
-    if fold > den {
-        2 * den - fold
-    } else if fold < -den {
-        -2 * den - fold
-    } else {
-        fold
+    if num > r.den {
+        return Fold {
+            num: 2 * r.den - num,
+            den: r.den,
+        };
     }
+    if num < -r.den {
+        return Fold {
+            num: -2 * r.den - num,
+            den: r.den,
+        };
+    }
+    Fold { num, den: r.den }
+}
+
+// The mirrored fold of the end whose sine is the greater.
+fn higher_end(r: Range) -> Fold
+    ensures den { result.den ≡ r.den }
+    ensures taken { IsTaken r.low r.high r.den result.num }
+    ensures highest { IsOneSided r.low r.high r.den → IsHighest r.low r.high r.den result.num }
+{
+    let first = mirrored(r.low, r);
+    let last = mirrored(r.high, r);
+    if first.num >= last.num { first } else { last }
 }
 
 /// The fold within a right angle that has the greatest sine of the range.
-pub fn crest(r: Range) -> i64
-    ensures within { unsigned_abs result ≤ unsigned_abs r.den }
-    ensures taken { IsTaken r.low r.high r.den result }
-    ensures highest { IsHighest r.low r.high r.den result }
+pub fn crest(r: Range) -> Fold
+    ensures den { result.den ≡ r.den }
+    ensures taken { IsTaken r.low r.high r.den result.num }
+    ensures highest { IsHighest r.low r.high r.den result.num }
 {
-    if r.low <= r.den && r.den <= r.high {
-        return r.den;
+    if r.high < r.den {
+        return higher_end(r);
     }
-    let first = mirrored(r.low, r.den);
-    let last = mirrored(r.high, r.den);
-    if first >= last { first } else { last }
+    if r.den < r.low {
+        return higher_end(r);
+    }
+    Fold {
+        num: r.den,
+        den: r.den,
+    }
+}
+
+/// The fold within a right angle that has the least sine of the range.
+pub fn trough(r: Range) -> Fold
+    ensures den { result.den ≡ r.den }
+    ensures taken { IsTaken r.low r.high r.den result.num }
+    ensures lowest { IsLowest r.low r.high r.den result.num }
+{
+    opposite(crest(turned(r)))
 }

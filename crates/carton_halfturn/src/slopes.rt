@@ -1,66 +1,93 @@
-ghost use Rattle.std.specs.Prelude.{IsTrue, ◌↔◌, ◌*◌, ◌^◌, pos, neg_ℤ, ◌-ℤ◌, ◌+ℤ◌, ◌*ℤ◌, ◌≤ℤ◌, unsigned_abs};
-ghost use Rattle.carton_base.specs.Rounding.{IsCeil, unit};
-ghost use Rattle.carton_halfturn.specs.Spans.{LeadsCosine, LeadsSine, InOneStretch, IsSmooth, IsBend};
-ghost use Rattle.carton_halfturn.specs.Slopes.{IsGentle, IsModest, InSixteen, IsRate};
-ghost use Rattle.carton_halfturn.specs.Rounded.{InUnit};
+ghost use Rattle.std.specs.Prelude.{◌≡◌, IsTrue, ◌↔◌, ◌*◌, ◌≤◌, ◌^◌, pos, neg_ℤ, ◌-ℤ◌, ◌+ℤ◌, ◌*ℤ◌, ◌≤ℤ◌, unsigned_abs};
+ghost use Rattle.carton_halfturn.specs.Spans.{LeadsCosine, LeadsSine, InOneStretch, IsEven};
+ghost use Rattle.carton_halfturn.specs.Slopes.{IsGentle, IsModest, InSixteen, IsRate, IsBend, IsReach};
+ghost use Rattle.carton_halfturn.specs.Values.{InUnit};
 
-use crate::spans::FoldSpan;
-use crate::values::{UNIT, cos_at, sin_at};
-use carton_base::{Bounds, ceil_div};
+use crate::ranges::{Range, range_of};
+use crate::spans::{FoldSpan, first_fold, last_fold};
+use crate::values::{cos_at, sin_at};
+use carton_base::{Bounds, fraction, square};
 
-// Both ends lie within a right angle, or both lie past it the same way.
-fn is_smooth(f: FoldSpan) -> bool
-    ensures { IsTrue result ↔ IsSmooth f }
+// The folds lie within a right angle, or past it one way, and no more than a right angle apart.
+fn is_even(r: Range) -> bool
+    ensures { IsTrue result ↔ IsEven r.low r.high r.den }
 {
-    let least = f.from.min(f.to);
-    let greatest = f.from.max(f.to);
-    if f.den <= least || greatest <= -f.den {
+    if r.high - r.low > r.den {
+        return false;
+    }
+    if r.low >= r.den {
         return true;
     }
-    -f.den <= least && greatest <= f.den
+    if r.high <= -r.den {
+        return true;
+    }
+    if r.low < -r.den {
+        return false;
+    }
+    r.high <= r.den
 }
 
 // How far a value may leave its chord over the span, for each whole span that passes: twice the
 // square of the fold's change, which bounds half the second derivative.
 fn bend(f: FoldSpan) -> i128
+    requires near { unsigned_abs (f.to -ℤ f.from) ≤ unsigned_abs f.den }
     ensures bend { IsBend f result }
     ensures from { pos 0 ≤ℤ result }
-    ensures upto { result ≤ℤ pos (2 ^ 40) }
+    ensures upto { result ≤ℤ pos (2 ^ 41) }
 {
-    let step = (f.to - f.from) as i128;
-    let den = f.den as i128;
-    ceil_div(2 * (step * step) * UNIT, den * den)
+    let step = square::<40>((f.to - f.from) as i128);
+    let den = square::<40>(f.den as i128);
+    fraction(2 * step, den).hi
 }
 
 // How far a value may go over the span: twice the fold's change.
 fn reach(f: FoldSpan) -> i128
-    ensures reach { IsCeil (pos (2 * unsigned_abs (f.to -ℤ f.from)) *ℤ unit) f.den result }
+    ensures reach { IsReach f result }
     ensures from { pos 0 ≤ℤ result }
-    ensures upto { result ≤ℤ pos (2 ^ 40) }
+    ensures upto { result ≤ℤ pos (2 ^ 43) }
 {
     let step = (f.to - f.from) as i128;
-    ceil_div(2 * step.abs() * UNIT, f.den as i128)
+    fraction(2 * step.abs(), f.den as i128).hi
+}
+
+// The change from a value of the first bounds to one of the last, give or take so much.
+fn change(first: Bounds, last: Bounds, by: i128) -> Bounds
+    requires first { InUnit first.lo first.hi }
+    requires last { InUnit last.lo last.hi }
+    requires from { pos 0 ≤ℤ by }
+    requires upto { by ≤ℤ pos (2 ^ 41) }
+    ensures low { result.lo ≡ last.lo -ℤ first.hi -ℤ by }
+    ensures high { result.hi ≡ last.hi -ℤ first.lo +ℤ by }
+    ensures within { InSixteen result.lo result.hi }
+{
+    Bounds {
+        lo: last.lo - first.hi - by,
+        hi: last.hi - first.lo + by,
+    }
+}
+
+// So much either way.
+fn either_way(by: i128) -> Bounds
+    requires from { pos 0 ≤ℤ by }
+    requires upto { by ≤ℤ pos (2 ^ 43) }
+    ensures low { result.lo ≡ neg_ℤ by }
+    ensures high { result.hi ≡ by }
+    ensures within { InSixteen result.lo result.hi }
+{
+    Bounds { lo: -by, hi: by }
 }
 
 // The rates from a value at the first end to one at the last, widened for the way between them.
 fn rates(f: FoldSpan, first: Bounds, last: Bounds) -> Bounds
     requires first { InUnit first.lo first.hi }
     requires last { InUnit last.lo last.hi }
-    ensures rate { IsRate f first.lo first.hi last.lo last.hi result.lo result.hi }
+    ensures rate { IsRate f first last result }
     ensures within { InSixteen result.lo result.hi }
 {
-    if is_smooth(f) {
-        let bend = bend(f);
-        return Bounds {
-            lo: last.lo - first.hi - bend,
-            hi: last.hi - first.lo + bend,
-        };
+    if is_even(range_of(f)) {
+        return change(first, last, bend(f));
     }
-    let reach = reach(f);
-    Bounds {
-        lo: -reach,
-        hi: reach,
-    }
+    either_way(reach(f))
 }
 
 /// Bounds of the rate at which the cosine leaves that of the first end, in units of 2^-40 for the
@@ -71,7 +98,7 @@ pub fn cos_slope(f: FoldSpan) -> Bounds
     ensures modest { IsModest f result.lo result.hi }
     ensures within { InSixteen result.lo result.hi }
 {
-    rates(f, cos_at(f.from, f.den), cos_at(f.to, f.den))
+    rates(f, cos_at(first_fold(f)), cos_at(last_fold(f)))
 }
 
 /// Bounds of the rate at which the sine leaves that of the first end, likewise.
@@ -81,5 +108,5 @@ pub fn sin_slope(f: FoldSpan) -> Bounds
     ensures modest { IsModest f result.lo result.hi }
     ensures within { InSixteen result.lo result.hi }
 {
-    rates(f, sin_at(f.from, f.den), sin_at(f.to, f.den))
+    rates(f, sin_at(first_fold(f)), sin_at(last_fold(f)))
 }

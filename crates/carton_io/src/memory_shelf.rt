@@ -1,6 +1,6 @@
-ghost use Rattle.std.specs.Prelude.{◌≡◌, ◌≢◌, ◌⊎◌, ◌↔◌, ℕ, ◌^◌, ◌<◌, ◌≤◌, ◌+◌, ◌-◌, min, List, length, Option, Some, None, IfOk, OnErr, IsErrOf, IsErr, IsTrue, Contains, option_map, string_bytes};
+ghost use Rattle.std.specs.Prelude.{◌≡◌, ◌≢◌, ◌⊎◌, ◌↔◌, ℕ, ◌^◌, ◌<◌, ◌≤◌, ◌+◌, ◌-◌, min, List, length, Option, Some, None, IfOk, IfSome, OnErr, IsErrOf, IsErr, IsTrue, Contains, option_map, string_bytes};
 ghost use Rattle.carton_io.specs.Files.{content_of, IsDue};
-ghost use Rattle.carton_io.specs.Told.{Rose, IfTold};
+ghost use Rattle.carton_io.specs.Told.{raised, Rose};
 
 use crate::shelf::{Shelf, ShelfError};
 use std::alloc::Global;
@@ -86,10 +86,11 @@ impl MemoryShelf {
     // Whether this read is to fail; counts it.
     fn is_failing(&mut self) -> bool
         ensures due { IsTrue result ↔ Contains self.old.failing self.old.reads }
-        ensures counted { self.new.reads ≡ min (self.old.reads + 1) (2 ^ 64 - 1) }
+        ensures counted { self.new.reads ≡ raised self.old.reads }
         ensures files { self.new.files ≡ self.old.files }
         ensures faults { self.new.faults ≡ self.old.faults }
         ensures last { self.new.last ≡ self.old.last }
+        ensures failing { self.new.failing ≡ self.old.failing }
     {
         let number = self.reads;
         self.reads = self.reads.saturating_add(1);
@@ -106,6 +107,8 @@ impl MemoryShelf {
         ensures unnamed { result ≡ ShelfError.Memory → self.new.last ≡ self.old.last }
         ensures quiet { result ≡ ShelfError.Memory → self.new.faults ≡ self.old.faults }
         ensures known { result ≢ ShelfError.TooLong }
+        ensures failing { self.new.failing ≡ self.old.failing }
+        ensures once { result ≡ ShelfError.Failed → self.new.faults ≡ raised self.old.faults }
     {
         match String::from_str(alloc, name) {
             Ok(copy) => {
@@ -129,11 +132,11 @@ impl Shelf for MemoryShelf {
 
     fn read(&mut self, alloc: Global, name: &str, limit: usize) -> Result<Vec<u8>, ShelfError>
         ensures short { IfOk result (λ v. length v.items ≤ limit) }
-        ensures told { IfOk result (λ v. IfTold (content_of self.old.files name.now) (λ bytes. v.items ≡ bytes)) }
+        ensures told { IfOk result (λ v. IfSome (content_of self.old.files name.now) (λ bytes. v.items ≡ bytes)) }
         ensures had_all { IfOk result (λ v. self.new.had ≡ length v.items) }
         ensures had_more { IsErrOf result ShelfError.TooLong → limit < self.new.had }
         ensures too_long { IsErrOf result ShelfError.TooLong
-            → IfTold (content_of self.old.files name.now) (λ bytes. limit < length bytes) }
+            → IfSome (content_of self.old.files name.now) (λ bytes. limit < length bytes) }
         ensures stays { (n : List ℕ) → content_of self.new.files n ≡ content_of self.old.files n }
         ensures later { self.old.faults ≤ self.new.faults }
         ensures cause { IsErrOf result ShelfError.Failed → Rose self.old.faults self.new.faults }
@@ -141,10 +144,14 @@ impl Shelf for MemoryShelf {
         ensures unnamed { (IsErrOf result ShelfError.Failed → ⊥) → Some self.new.last ≡ Some self.old.last }
         ensures quiet { IsErrOf result ShelfError.Memory → self.new.faults ≡ self.old.faults }
 
+        ensures steady { (IsErrOf result ShelfError.Failed → ⊥) → self.new.faults ≡ self.old.faults }
+        ensures once { IsErrOf result ShelfError.Failed → self.new.faults ≡ raised self.old.faults }
+        ensures failing { self.new.failing ≡ self.old.failing }
+
         // A read fails exactly where its number is in the list or no file has the name.
         ensures due { IsDue self.old name.now → IsErrOf result ShelfError.Failed ⊎ IsErrOf result ShelfError.Memory }
         ensures only_due { IsErrOf result ShelfError.Failed → IsDue self.old name.now }
-        ensures counted { self.new.reads ≡ min (self.old.reads + 1) (2 ^ 64 - 1) }
+        ensures counted { self.new.reads ≡ raised self.old.reads }
     {
         if self.is_failing() {
             return Err(self.fail(alloc, name));

@@ -1,5 +1,5 @@
-ghost use Rattle.std.specs.Prelude.{◌≡◌, ◌<◌, ◌≤◌, ◌+◌, [], ◌++◌, List, length, take, min, Option, Some, None, IfOk, IsOk, OnOk, OnErr, unwrap_or, ◌-◌, ◌↔◌, ℕ};
-ghost use Rattle.carton_io.specs.Told.{Rose, GrewInPart};
+ghost use Rattle.std.specs.Prelude.{◌≡◌, ◌<◌, ◌≤◌, ◌+◌, [], ◌++◌, List, length, take, min, Option, Some, None, IfOk, IsOk, OnOk, OnErr, unwrap_or, ◌-◌, ◌^◌, ◌↔◌, ℕ};
+ghost use Rattle.carton_io.specs.Told.{raised, Rose, GrewInPart};
 
 use crate::sink::{Sink, SinkFault};
 use carton_base::OutOfMemory;
@@ -52,6 +52,16 @@ impl MemorySink {
     {
         self.kept.as_slice()
     }
+
+    // Keeps bytes for which there is room: it was taken at the start, so the vector has it.
+    fn keep(&mut self, bytes: &[u8])
+        requires { length self.old.kept + length bytes.now ≤ self.old.limit }
+        ensures kept { self.new.kept ≡ self.old.kept ++ bytes.now }
+        ensures limit { self.new.limit ≡ self.old.limit }
+        ensures faults { self.new.faults ≡ self.old.faults }
+    {
+        let _ = self.kept.extend_from_slice(bytes);
+    }
 }
 
 impl Sink for MemorySink {
@@ -60,11 +70,14 @@ impl Sink for MemorySink {
     ghost faults = { λ s. s.faults };
 
     fn put(&mut self, piece: &[u8]) -> Result<(), SinkFault>
-        ensures ok { OnOk result (Some self.new.kept ≡ Some (self.old.kept ++ piece.now)) }
+        ensures ok { OnOk result (self.new.kept ≡ self.old.kept ++ piece.now) }
         ensures err { OnErr result (GrewInPart (Some self.old.kept) (Some self.new.kept) piece.now) }
         ensures empty { piece.now ≡ [] → IsOk result }
         ensures later { self.old.faults ≤ self.new.faults }
         ensures cause { OnErr result (Rose self.old.faults self.new.faults) }
+
+        ensures steady { OnOk result (self.new.faults ≡ self.old.faults) }
+        ensures once { OnErr result (self.new.faults ≡ raised self.old.faults) }
 
         // A piece that fits is kept, and of one that doesn't, what fits.
         ensures fits { IsOk result ↔ (length self.old.kept + length piece.now ≤ self.old.limit) }
@@ -73,13 +86,11 @@ impl Sink for MemorySink {
     {
         let room = self.limit - self.kept.len();
         if piece.len() <= room {
-            if self.kept.extend_from_slice(piece).is_ok() {
-                return Ok(());
-            }
-        } else if self.kept.extend_from_slice(&piece[..room]).is_ok() {
-            self.faults = self.faults.saturating_add(1);
-            return Err(SinkFault);
+            self.keep(piece);
+            return Ok(());
         }
-        unreachable!()
+        self.keep(&piece[..room]);
+        self.faults = self.faults.saturating_add(1);
+        Err(SinkFault)
     }
 }

@@ -1,6 +1,6 @@
-ghost use Rattle.std.specs.Prelude.{◌≡◌, ◌≢◌, ℕ, ◌^◌, ◌<◌, ◌≤◌, List, length, Option, Some, None, IfOk, IsErrOf};
+ghost use Rattle.std.specs.Prelude.{◌≡◌, ◌≢◌, ℕ, ◌^◌, ◌<◌, ◌≤◌, ◌+◌, ◌-◌, min, List, length, Option, Some, None, IfOk, IfSome, IsErrOf};
 ghost use Rattle.carton_io.specs.declared.shelf.ShelfError.TheVariants.{Memory};
-ghost use Rattle.carton_io.specs.Told.{Rose, IfTold};
+ghost use Rattle.carton_io.specs.Told.{raised, Rose};
 
 use std::alloc::{AllocError, AllocFailed, Global};
 
@@ -47,16 +47,18 @@ pub trait Shelf {
     fn read(&mut self, alloc: Global, name: &str, limit: usize) -> Result<Vec<u8>, ShelfError>
         requires { limit ≤ 2 ^ 28 }
         ensures short { IfOk result (λ v. length v.items ≤ limit) }
-        ensures told { IfOk result (λ v. IfTold (holds self.old name.now) (λ bytes. v.items ≡ bytes)) }
+        ensures told { IfOk result (λ v. IfSome (holds self.old name.now) (λ bytes. v.items ≡ bytes)) }
         ensures had_all { IfOk result (λ v. had self.new ≡ length v.items) }
         ensures had_more { IsErrOf result ShelfError.TooLong → limit < had self.new }
         ensures too_long { IsErrOf result ShelfError.TooLong
-            → IfTold (holds self.old name.now) (λ bytes. limit < length bytes) }
+            → IfSome (holds self.old name.now) (λ bytes. limit < length bytes) }
         ensures stays { (n : List ℕ) → holds self.new n ≡ holds self.old n }
         ensures later { faults self.old ≤ faults self.new }
         ensures cause { IsErrOf result ShelfError.Failed → Rose (faults self.old) (faults self.new) }
         ensures named { IsErrOf result ShelfError.Failed
-            → IfTold (last_failed self.new) (λ n. n ≡ Some name.now) }
+            → IfSome (last_failed self.new) (λ n. n ≡ Some name.now) }
         ensures unnamed { (IsErrOf result ShelfError.Failed → ⊥) → last_failed self.new ≡ last_failed self.old }
-        ensures quiet { IsErrOf result ShelfError.Memory → faults self.new ≡ faults self.old };
+        ensures quiet { IsErrOf result ShelfError.Memory → faults self.new ≡ faults self.old }
+        ensures steady { (IsErrOf result ShelfError.Failed → ⊥) → faults self.new ≡ faults self.old }
+        ensures once { IsErrOf result ShelfError.Failed → faults self.new ≡ raised (faults self.old) };
 }

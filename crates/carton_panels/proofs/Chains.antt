@@ -3,7 +3,8 @@ use Rattle.std.proofs.Common.{◌≡◌, ℤ, pos, neg_ℤ, ◌+ℤ◌, ◌-ℤ�
 use Rattle.std.proofs.lemmas.Int.{ints}
 use Rattle.std.proofs.lemmas.List.Elements.{All-nil, All-cons, All-tail, All-head, All-contains, All-weaker}
 use Rattle.carton_base.specs.declared.dieline.Point.{Point}
-use Rattle.carton_panels.specs.Panels.{Side, sides_along, sides_of, leftness, IsStrictlyLeft, IsConvex, InPanel}
+use Rattle.carton_panels.specs.Around.{steps}
+use Rattle.carton_panels.specs.Panels.{Side, sides_of, leftness, IsStrictlyLeft, IsConvex, InPanel}
 use Rattle.carton_base.proofs.Identities.{whole, less, ◌⊕◌, ◌⊖◌, ◌⊗◌, ◌⊜◌, by2, by6, by7, by8}
 use Rattle.carton_panels.specs.Insets.{line_a, line_b}
 use Rattle.carton_panels.proofs.Insets.{zero_factor}
@@ -25,13 +26,13 @@ rise_is : (s : Side) (u v : ℤ) → rise s u v ≡ level u v s.to -ℤ level u 
 rise_is s u v = by6 (λ fx fy tx ty u v. (ty ⊖ fy) ⊗ u ⊕ (fx ⊖ tx) ⊗ v ⊜ (ty ⊗ u ⊖ tx ⊗ v) ⊖ (fy ⊗ u ⊖ fx ⊗ v)) refl s.from.x s.from.y s.to.x s.to.y u v
 
 -- a relation that holds along each side, and is carried on between points with G, holds from the first point to each and from each to the last
-pub chain : (G : Point → Type 0) (R : Point → Point → Type 0) (on : (p q r : Point) → G p → G q → G r → R p q → R q r → R p r) (p : Point) (ps : List Point) (last : Point) → G p → All G ps → G last → All (λ s. R s.from s.to) (sides_along p ps last) → R p last × All (λ q. R p q × R q last) ps
+pub chain : (G : Point → Type 0) (R : Point → Point → Type 0) (on : (p q r : Point) → G p → G q → G r → R p q → R q r → R p r) (p : Point) (ps : List Point) (last : Point) → G p → All G ps → G last → All (λ s. R s.from s.to) (steps p ps last) → R p last × All (λ q. R p q × R q last) ps
 chain G R on p [] last gp gs gl h = (h 0 record { from = p; to = last } (omega arith), All-nil (λ q. R p q × R q last))
 chain G R on p (q ∷ qs) last gp gs gl h =
     let first : R p q = h 0 record { from = p; to = last } (omega arith) in
     let gq : G q = All-head G q qs gs in
     let gqs : All G qs = All-tail G q qs gs in
-    let rest = chain G R on q qs last gq gqs gl (All-tail (λ s. R s.from s.to) record { from = p; to = q } (sides_along q qs last) h) in
+    let rest = chain G R on q qs last gq gqs gl (All-tail (λ s. R s.from s.to) record { from = p; to = q } (steps q qs last) h) in
     (on p q last gp gq gl first rest.0, All-cons (λ r. R p r × R r last) q qs (first, rest.0) (All-both G (λ r. R q r × R r last) (λ r. R p r × R r last) (λ r gr e. (on p q r gp gq gr first e.0, e.1)) qs gqs rest.1))
 
 -- two directions in one line with a third: the cross product of the two is nought
@@ -69,7 +70,7 @@ not_level u v p (q ∷ qs) n convex same =
 pub some_rises : (u v : ℤ) (ps : List Point) → 0 < length ps → Moves u v → IsConvex ps → All (λ s. rise s u v ≤ℤ pos 0) (sides_of ps) → ⊥
 some_rises u v [] l n convex h = absurd (omega (arith, l))
 some_rises u v (p ∷ ps) l n convex h =
-    let along = chain (λ q. Unit {0}) (λ p q. level u v q ≤ℤ level u v p) (λ a b c _ _ _ d e. over (level u v a) (level u v b) (level u v c) d e) p ps p tt (λ k d i. tt) tt (All-weaker (λ s. rise s u v ≤ℤ pos 0) (λ s. level u v s.to ≤ℤ level u v s.from) (λ s e. falls (rise s u v) (level u v s.to) (level u v s.from) (rise_is s u v) e) (sides_along p ps p) h) in
+    let along = chain (λ q. Unit {0}) (λ p q. level u v q ≤ℤ level u v p) (λ a b c _ _ _ d e. over (level u v a) (level u v b) (level u v c) d e) p ps p tt (λ k d i. tt) tt (All-weaker (λ s. rise s u v ≤ℤ pos 0) (λ s. level u v s.to ≤ℤ level u v s.from) (λ s e. falls (rise s u v) (level u v s.to) (level u v s.from) (rise_is s u v) e) (steps p ps p) h) in
     not_level u v p ps n convex (All-weaker (λ q. (level u v q ≤ℤ level u v p) × (level u v p ≤ℤ level u v q)) (λ q. level u v q ≡ level u v p) (λ q e. met (level u v q) (level u v p) e.0 e.1) ps along.1)
   where
     over : (a b c : ℤ) → b ≤ℤ a → c ≤ℤ b → c ≤ℤ a
@@ -114,7 +115,7 @@ not_beyond a b x y w p ps h convex inside behind =
     let v : ℤ = w *ℤ p.y -ℤ y in
     let gp : beyond a b x y w p <ℤ pos 0 = All-head (λ q. beyond a b x y w q <ℤ pos 0) p ps behind in
     let gs : All (λ q. beyond a b x y w q <ℤ pos 0) ps = All-tail (λ q. beyond a b x y w q <ℤ pos 0) p ps behind in
-    let along = chain (λ q. beyond a b x y w q <ℤ pos 0) (λ p q. pos 0 ≤ℤ seen x y w p q) (λ p q r gp gq gr e f. turns a b (w *ℤ p.x -ℤ x) (w *ℤ p.y -ℤ y) (w *ℤ q.x -ℤ x) (w *ℤ q.y -ℤ y) (w *ℤ r.x -ℤ x) (w *ℤ r.y -ℤ y) gp gq gr e f) p ps p gp gs gp (All-weaker (λ s. pos 0 ≤ℤ leftness s x y w) (λ s. pos 0 ≤ℤ seen x y w s.from s.to) (λ s e. same (seen x y w s.from s.to) (w *ℤ leftness s x y w) (seen_is x y w s) (product_not_negative w (leftness s x y w) (from w h) e)) (sides_along p ps p) inside) in
+    let along = chain (λ q. beyond a b x y w q <ℤ pos 0) (λ p q. pos 0 ≤ℤ seen x y w p q) (λ p q r gp gq gr e f. turns a b (w *ℤ p.x -ℤ x) (w *ℤ p.y -ℤ y) (w *ℤ q.x -ℤ x) (w *ℤ q.y -ℤ y) (w *ℤ r.x -ℤ x) (w *ℤ r.y -ℤ y) gp gq gr e f) p ps p gp gs gp (All-weaker (λ s. pos 0 ≤ℤ leftness s x y w) (λ s. pos 0 ≤ℤ seen x y w s.from s.to) (λ s e. same (seen x y w s.from s.to) (w *ℤ leftness s x y w) (seen_is x y w s) (product_not_negative w (leftness s x y w) (from w h) e)) (steps p ps p) inside) in
     not_level u v p ps (λ z. still a b u v z.0 z.1 gp) convex (All-weaker (λ q. (pos 0 ≤ℤ seen x y w p q) × (pos 0 ≤ℤ seen x y w q p)) (λ q. level u v q ≡ level u v p) (λ q e. levels q e.0 e.1) ps along.1)
   where
     from : (z : ℤ) → pos 0 <ℤ z → pos 0 ≤ℤ z

@@ -1,5 +1,6 @@
 -- Where the inset lines of two sides cross, as the code tells it; and points gathered from such crossings.
-use Rattle.std.proofs.Common.{◌≡◌, ℕ, ◌+◌, ◌<◌, ◌⊎◌, inl, inr, List, [], ◌∷◌, ◌++◌, Option, Some, None, get_or, refl, ◌∙◌, ap, subst, arith, below_more, ℤ, pos, neg_ℤ, ◌-ℤ◌, ◌*ℤ◌}
+use Rattle.std.proofs.Common.{◌≡◌, ℕ, ◌+◌, ◌<◌, ◌⊎◌, inl, inr, List, [], ◌∷◌, ◌++◌, length, Option, Some, None, get_or, refl, ◌∙◌, ap, subst, arith, below_more, ℤ, pos, neg_ℤ, ◌-ℤ◌, ◌*ℤ◌, ◌<ℤ◌}
+use Rattle.carton_panels.proofs.Steps.{length-around}
 use Rattle.std.specs.Prelude.{Any, Contains}
 use Rattle.std.proofs.lemmas.Int.{ints}
 use Rattle.std.proofs.lemmas.List.Elements.{All-push, Contains-push}
@@ -9,8 +10,9 @@ use Rattle.carton_base.specs.declared.dieline.Point.{Point}
 use Rattle.carton_base.specs.declared.numbers.Triple.{Triple}
 use Rattle.carton_panels.specs.Panels.{Side, sides_of}
 use Rattle.carton_panels.specs.Shrinking.{IsSamePoint}
-use Rattle.carton_panels.specs.Insets.{IsInsetLine, IsSmall, KeepsAll, inset, line_a, line_b, line_e}
-use Rattle.carton_panels.specs.Crossings.{CoversPair, CoversRow, HasParts, IsCovered, IsCrossing, IsGathered, IsPointOf}
+use Rattle.carton_panels.specs.Insets.{IsInsetLine, KeepsAll, inset, line_a, line_b, line_e}
+use Rattle.carton_model.specs.Points.{IsSmall}
+use Rattle.carton_panels.specs.Crossings.{CoversPair, CoversRow, HasParts, IsCovered, IsCrossing, IsInsetCorner, IsGathered, IsPointOf, cross}
 use Rattle.carton_panels.proofs.Insets.{cross_is, crossing_insets, crossing_x, crossing_y, crossing_w}
 use Rattle.carton_panels.proofs.Pairs.{inset_less, covers}
 
@@ -19,8 +21,18 @@ inset_at_parts m s p x y w h e = ap (λ n. inset m s n p.y p.w) h.x_part ∙ ap 
 
 pub crossing_from_point : (m : ℕ) (s t : Side) (r : Option Triple) → IsPointOf (crossing_x m s t) (crossing_y m s t) (crossing_w s t) r → IsCrossing m s t r
 crossing_from_point m s t None h = cross_is s t ∙ h
-crossing_from_point m s t (Some p) h = let b = both h.1 in (h.0, b.0, b.1)
+crossing_from_point m s t (Some p) h = let b = both h.1 in (h.0, b.0, b.1, λ e. some (h.1) e)
   where
+    nonzero : (c w n : ℤ) → c ≡ w → n ≡ w → pos 0 <ℤ n → ¬ (c ≡ pos 0)
+    nonzero c w n e f h z = absurd (omega (arith, ints, e, f, h, z))
+
+    nonzero_turned : (c w n : ℤ) → c ≡ w → n ≡ neg_ℤ w → pos 0 <ℤ n → ¬ (c ≡ pos 0)
+    nonzero_turned c w n e f h z = absurd (omega (arith, ints, e, f, h, z))
+
+    some : HasParts p (crossing_x m s t) (crossing_y m s t) (crossing_w s t) ⊎ HasParts p (neg_ℤ (crossing_x m s t)) (neg_ℤ (crossing_y m s t)) (neg_ℤ (crossing_w s t)) → ¬ (cross s t ≡ pos 0)
+    some (inl q) = nonzero (cross s t) (crossing_w s t) p.w (cross_is s t) q.w_part p.positive
+    some (inr q) = nonzero_turned (cross s t) (crossing_w s t) p.w (cross_is s t) q.w_part p.positive
+
     both : HasParts p (crossing_x m s t) (crossing_y m s t) (crossing_w s t) ⊎ HasParts p (neg_ℤ (crossing_x m s t)) (neg_ℤ (crossing_y m s t)) (neg_ℤ (crossing_w s t)) → (inset m s p.x p.y p.w ≡ pos 0) × (inset m t p.x p.y p.w ≡ pos 0)
     both (inl q) = (inset_at_parts m s p _ _ _ q (crossing_insets m s t).0, inset_at_parts m t p _ _ _ q (crossing_insets m s t).1)
     both (inr q) = (inset_at_parts m s p _ _ _ q (inset_less m s _ _ _ (crossing_insets m s t).0), inset_at_parts m t p _ _ _ q (inset_less m t _ _ _ (crossing_insets m s t).1))
@@ -37,12 +49,22 @@ crossing_from_lines m s t r a b e c d f h g p =
     turned f a e c = omega (arith, ints)
 
 -- a new point that keeps all and is none of those found
-pub gathered_more : (m : ℕ) (ps : List Point) (ts : List Triple) (t : Triple) → IsGathered m ps ts → KeepsAll m ps t.x t.y t.w → IsSmall t → ¬ (Any (λ k. IsSamePoint k t) ts) → IsGathered m ps (ts ++ t ∷ [])
-gathered_more m ps ts t g keeps small new = record {
+pub gathered_more : (m : ℕ) (ps : List Point) (ts : List Triple) (t : Triple) → IsGathered m ps ts → KeepsAll m ps t.x t.y t.w → IsSmall t → IsInsetCorner m ps t → ¬ (Any (λ k. IsSamePoint k t) ts) → IsGathered m ps (ts ++ t ∷ [])
+gathered_more m ps ts t g keeps small corner new = record {
   members = All-push (λ t. KeepsAll m ps t.x t.y t.w) ts t g.members keeps;
   once = all_pairs_push (λ a b. ¬ (IsSamePoint a b)) ts t g.once (λ k d h s. new (k, get_or ts k d, h, get_or_default ts k (get_or ts k d) d h, s));
   small = All-push IsSmall ts t g.small small;
+  corners = All-push (IsInsetCorner m ps) ts t g.corners corner;
 }
+
+-- where the inset lines of two sides cross is a corner
+pub corner_at : (m : ℕ) (ps : List Point) (i j : ℕ) (d : Side) (t : Triple) → i < length ps → j < length ps → IsCrossing m (get_or (sides_of ps) i d) (get_or (sides_of ps) j d) (Some t) → IsInsetCorner m ps t
+corner_at m ps i j d t h l c =
+    let hi : i < length (sides_of ps) = omega (arith, length-around ps, h) in
+    let hj : j < length (sides_of ps) = omega (arith, length-around ps, l) in
+    let s = get_or (sides_of ps) i d in
+    let u = get_or (sides_of ps) j d in
+    (i, s, hi, get_or_default (sides_of ps) i s d hi, (j, u, hj, get_or_default (sides_of ps) j u d hj, (c.3, c.1, c.2)))
 
 pub covered_by_push : (ts : List Triple) (t : Triple) → IsCovered (ts ++ t ∷ []) t.x t.y t.w
 covered_by_push ts t = (t, Contains-push ts t, refl, refl)
@@ -77,4 +99,5 @@ gathered_none m ps = record {
   members = λ k d h. absurd (omega (arith, h));
   once = λ i j d h l. absurd (omega (arith, l));
   small = λ k d h. absurd (omega (arith, h));
+  corners = λ k d h. absurd (omega (arith, h));
 }

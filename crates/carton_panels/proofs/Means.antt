@@ -14,7 +14,7 @@ mean_by x y w a b c (pos k) (pos l) (negsuc m) n p q r t ex ey ew = absurd (omeg
 mean_by x y w a b c (pos k) (pos l) (pos m) (negsuc n) p q r t ex ey ew = absurd (omega (arith, ints, t))
 
 -- the flat point is a mean of two members of the list
-pub record IsBetween (ts : List Triple) (x y w : ℤ) : Type 0 where
+pub record IsMeanOfTwo (ts : List Triple) (x y w : ℤ) : Type 0 where
   pub a : Triple
   pub b : Triple
   pub at_a : Contains ts a

@@ -7,7 +7,7 @@ use Rattle.carton_base.specs.declared.dieline.Point.{Point}
 use Rattle.carton_base.specs.declared.numbers.Triple.{Triple}
 use Rattle.carton_model.specs.Dielines.{IsNear}
 use Rattle.carton_panels.specs.Panels.{Side, sides_of, IsConvex}
-use Rattle.carton_panels.specs.Shapes.{IsNearPoint}
+use Rattle.carton_model.specs.Points.{IsNearPoint}
 use Rattle.carton_panels.specs.Shrinking.{InShrunk}
 use Rattle.carton_base.proofs.Identities.{whole, less, ◌⊕◌, ◌⊖◌, ◌⊗◌, ◌⊜◌, by2, by4, by6, by8}
 use Rattle.carton_panels.specs.Insets.{KeepsAll, inset}
@@ -15,7 +15,7 @@ use Rattle.carton_panels.specs.Crossings.{CoversPair, IsCovered, cross}
 use Rattle.carton_panels.proofs.Insets.{zero_factor, crossing_unique, shrunk_from_keeps, shrunk_in_panel}
 use Rattle.carton_panels.proofs.Ratios.{positive_factor, product_not_negative, at_most}
 use Rattle.carton_panels.proofs.Exits.{inset_times}
-use Rattle.carton_panels.proofs.Corners.{IsComplete, panel_near}
+use Rattle.carton_panels.proofs.Generating.{IsComplete, panel_near}
 
 -- the inset at the negative of a triple
 pub inset_less : (m : ℕ) (s : Side) (x y w : ℤ) → inset m s x y w ≡ pos 0 → inset m s (neg_ℤ x) (neg_ℤ y) (neg_ℤ w) ≡ pos 0

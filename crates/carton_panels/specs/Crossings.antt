@@ -1,10 +1,11 @@
 -- Where the inset lines of a face cross, and the crossings that are gathered.
-use Rattle.std.specs.Prelude.{◌≡◌, ◌⊎◌, ℕ, ◌<◌, List, All, AllPairs, Contains, slice_index_or, Option, Some, None, ℤ, pos, neg_ℤ, ◌-ℤ◌, ◌*ℤ◌, ◌<ℤ◌}
+use Rattle.std.specs.Prelude.{◌≡◌, ◌⊎◌, ℕ, ◌<◌, List, All, Any, AllPairs, Contains, slice_index_or, Option, Some, None, ℤ, pos, neg_ℤ, ◌-ℤ◌, ◌*ℤ◌, ◌<ℤ◌}
 use Rattle.carton_base.specs.declared.dieline.Point.{Point}
 use Rattle.carton_base.specs.declared.numbers.Triple.{Triple}
 use Rattle.carton_panels.specs.Panels.{Side, sides_of}
 use Rattle.carton_panels.specs.Shrinking.{IsSamePoint}
-use Rattle.carton_panels.specs.Insets.{inset, KeepsAll, IsSmall}
+use Rattle.carton_model.specs.Points.{IsSmall}
+use Rattle.carton_panels.specs.Insets.{inset, KeepsAll}
 
 -- cross product of the directions of two sides
 abbrev pub cross : Side → Side → ℤ
@@ -24,7 +25,11 @@ IsPointOf x y w (Some t) = IsSmall t × (HasParts t x y w ⊎ HasParts t (neg_�
 -- what is told of where the inset lines of two sides cross: a point on both, or that they are parallel
 abbrev pub IsCrossing : ℕ → Side → Side → Option Triple → Type 0
 IsCrossing m s t None = cross s t ≡ pos 0
-IsCrossing m s t (Some p) = IsSmall p × (inset m s p.x p.y p.w ≡ pos 0) × (inset m t p.x p.y p.w ≡ pos 0)
+IsCrossing m s t (Some p) = IsSmall p × (inset m s p.x p.y p.w ≡ pos 0) × (inset m t p.x p.y p.w ≡ pos 0) × ¬ (cross s t ≡ pos 0)
+
+-- the flat point is a corner of the inset panel's lines: the inset lines of two sides that aren't parallel cross there
+abbrev pub IsInsetCorner : ℕ → List Point → Triple → Type 0
+IsInsetCorner m ps p = Any (λ s. Any (λ t. ¬ (cross s t ≡ pos 0) × (inset m s p.x p.y p.w ≡ pos 0) × (inset m t p.x p.y p.w ≡ pos 0)) (sides_of ps)) (sides_of ps)
 
 -- some member of the list is the flat point (x/w, y/w)
 abbrev pub IsCovered : List Triple → ℤ → ℤ → ℤ → Type 0
@@ -43,3 +48,4 @@ pub record IsGathered (m : ℕ) (ps : List Point) (ts : List Triple) : Type 0 wh
   pub members : All (λ t. KeepsAll m ps t.x t.y t.w) ts
   pub once : AllPairs (λ a b. ¬ (IsSamePoint a b)) ts
   pub small : All IsSmall ts
+  pub corners : All (IsInsetCorner m ps) ts

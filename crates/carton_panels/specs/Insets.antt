@@ -1,7 +1,6 @@
 -- The sides of a face moved inwards by a margin, as half planes.
-use Rattle.std.specs.Prelude.{◌≡◌, ℕ, ◌≤◌, ◌^◌, List, All, ℤ, pos, ◌+ℤ◌, ◌-ℤ◌, ◌*ℤ◌, ◌≤ℤ◌, unsigned_abs}
+use Rattle.std.specs.Prelude.{◌≡◌, ℕ, List, All, ℤ, pos, ◌+ℤ◌, ◌-ℤ◌, ◌*ℤ◌, ◌≤ℤ◌, unsigned_abs}
 use Rattle.carton_base.specs.declared.dieline.Point.{Point}
-use Rattle.carton_base.specs.declared.numbers.Triple.{Triple}
 use Rattle.carton_panels.specs.Panels.{Side, sides_of, leftness}
 
 -- the inset line of a side as a*x + b*y = e*w
@@ -27,9 +26,3 @@ inset m s x y w = leftness s x y w -ℤ (pos m *ℤ (pos (unsigned_abs (s.to.x -
 -- the flat point keeps the inset inequality of each side
 abbrev pub KeepsAll : ℕ → List Point → ℤ → ℤ → ℤ → Type 0
 KeepsAll m ps x y w = All (λ s. pos 0 ≤ℤ inset m s x y w) (sides_of ps)
-
--- each part of the triple is at most 2^45 away from 0
-pub record IsSmall (t : Triple) : Type 0 where
-  pub x : unsigned_abs t.x ≤ 2 ^ 45
-  pub y : unsigned_abs t.y ≤ 2 ^ 45
-  pub w : unsigned_abs t.w ≤ 2 ^ 45

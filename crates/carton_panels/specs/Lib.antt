@@ -1,3 +1,4 @@
+pub mod Around
 pub mod Panels
 pub mod Insets
 pub mod Crossings
@@ -6,3 +7,4 @@ pub mod Creases
 pub mod Shapes
 pub mod Answers
 pub mod Flat
+pub mod DielinePanels

@@ -1,9 +1,10 @@
 -- Faces as panels: sides, what lies left of them, and which faces are convex.
-use Rattle.std.specs.Prelude.{◌≡◌, ◌≢◌, ℕ, ◌<◌, List, [], ◌∷◌, length, map, All, AllPairs, Any, Bool, if◌then◌else◌, slice_index_or, ℤ, pos, ◌-ℤ◌, ◌*ℤ◌, ◌≤ℤ◌, ◌<ℤ◌}
+use Rattle.std.specs.Prelude.{◌≡◌, ◌≢◌, ℕ, ◌<◌, List, [], length, map, All, AllPairs, Any, Bool, not, filter, slice_index_or, ℤ, pos, ◌-ℤ◌, ◌*ℤ◌, ◌≤ℤ◌, ◌<ℤ◌}
 use Rattle.std.specs.Ordering.{int_eq}
 use Rattle.carton_base.specs.declared.dieline.RawDieline.{RawDieline}
 use Rattle.carton_base.specs.declared.dieline.Point.{Point}
 use Rattle.carton_base.specs.declared.dieline.Face.{Face}
+use Rattle.carton_panels.specs.Around.{Step, around, last_first}
 
 abbrev pub origin : Point
 origin = record { x = pos 0; y = pos 0 }
@@ -12,23 +13,17 @@ origin = record { x = pos 0; y = pos 0 }
 abbrev pub places_of : RawDieline → Face → List Point
 places_of d f = map (λ c. slice_index_or d.vertices c origin) f.corners
 
--- the face at a place in the dieline's list, and past the list one of no corners
+-- face k of the dieline, and past the last one a face of no vertices
 abbrev pub face_at : RawDieline → ℕ → Face
 face_at d k = slice_index_or d.faces k (record { corners = [] })
 
-pub record Side : Type 0 where
-  pub from : Point
-  pub to : Point
-
--- the sides from p through the points and on to the last one
-abbrev pub sides_along : Point → List Point → Point → List Side
-sides_along p [] last = (record { from = p; to = last }) ∷ []
-sides_along p (q ∷ qs) last = (record { from = p; to = q }) ∷ sides_along q qs last
+-- a side of a face goes from a vertex to the next one
+abbrev pub Side : Type 0
+Side = Step Point
 
 -- the sides of a face: from each vertex to the next, and from the last to the first
 abbrev pub sides_of : List Point → List Side
-sides_of [] = []
-sides_of (p ∷ ps) = sides_along p ps p
+sides_of ps = around ps
 
 -- how far the flat point (x/w, y/w) lies left of the side: positive on its left, 0 on its line
 abbrev pub leftness : Side → ℤ → ℤ → ℤ → ℤ
@@ -57,21 +52,14 @@ IsRepeating ps = (i j : ℕ) × (i < j) × (j < length ps) × (slice_index_or ps
 abbrev pub IsConvex : List Point → Type 0
 IsConvex ps = All (λ s. All (λ p. IsLeft s p.x p.y (pos 1)) ps × Any (λ p. IsStrictlyLeft s p.x p.y (pos 1)) ps) (sides_of ps)
 
--- the vertex q between p and r is straight: the two sides that meet there lie in one line
-abbrev pub is_straight : Point → Point → Point → Bool
-is_straight p q r = int_eq (leftness (record { from = p; to = q }) r.x r.y (pos 1)) (pos 0)
+-- what meets at the vertices of a face, in their order: from the side before the vertex to the side after it
+abbrev pub bends_of : List Point → List (Step Side)
+bends_of ps = around (last_first (sides_of ps))
 
--- of the vertices from q on, those that aren't straight, where p stands before q and r after the last
-abbrev pub corners_along : Point → Point → List Point → Point → List Point
-corners_along p q [] r = if is_straight p q r then [] else (q ∷ [])
-corners_along p q (s ∷ ss) r = if is_straight p q s then corners_along q s ss r else (q ∷ corners_along q s ss r)
-
--- the last of the points p, ps
-abbrev pub last_of : Point → List Point → Point
-last_of p [] = p
-last_of p (q ∷ qs) = last_of q qs
+-- the vertex is straight: the two sides that meet there lie in one line
+abbrev pub is_straight : Step Side → Bool
+is_straight b = int_eq (leftness b.from b.to.to.x b.to.to.y (pos 1)) (pos 0)
 
 -- the corners of a face: its vertices that aren't straight, in its order
 abbrev pub corners_of : List Point → List Point
-corners_of [] = []
-corners_of (p ∷ ps) = corners_along (last_of p ps) p ps p
+corners_of ps = map (λ b. b.to.from) (filter (λ b. not (is_straight b)) (bends_of ps))

@@ -1,11 +1,13 @@
 -- A panel as a shape: where its vertices stand, its margin, its corners, and the corners of the shrunk panel.
-use Rattle.std.specs.Prelude.{◌≡◌, ℕ, ◌<◌, ◌≤◌, ◌*◌, List, length, map, All, AllPairs, ℤ, pos, ◌<ℤ◌, unsigned_abs}
+use Rattle.std.specs.Prelude.{◌≡◌, ℕ, ◌<◌, ◌≤◌, List, length, map, All, AllPairs, ℤ, pos, ◌<ℤ◌}
 use Rattle.carton_base.specs.declared.dieline.Point.{Point}
 use Rattle.carton_base.specs.declared.numbers.Triple.{Triple}
 use Rattle.carton_panels.specs.Panels.{IsDistinct, IsConvex, corners_of}
 use Rattle.carton_panels.specs.Shrinking.{InShrunk, HasRoom, IsMeanOf, IsSamePoint}
-use Rattle.carton_panels.specs.Insets.{IsSmall}
-use Rattle.carton_model.specs.Dielines.{farthest, most_corners, IsNear}
+use Rattle.carton_panels.specs.Crossings.{IsInsetCorner}
+use Rattle.carton_base.specs.declared.limits.TheConstants.{LEAST_CORNERS, MOST_CORNERS, WIDEST_MARGIN}
+use Rattle.carton_model.specs.Dielines.{IsNear}
+use Rattle.carton_model.specs.Points.{IsNearPoint, IsSmall}
 
 pub record Shape : Type 0 where
   pub places : List Point
@@ -17,19 +19,14 @@ pub record Shape : Type 0 where
 abbrev pub place_of : Triple → Point
 place_of t = record { x = t.x; y = t.y }
 
--- the point lies within the farthest place along both axes
-pub record IsNearPoint (t : Triple) : Type 0 where
-  pub x : unsigned_abs t.x ≤ farthest * unsigned_abs t.w
-  pub y : unsigned_abs t.y ≤ farthest * unsigned_abs t.w
-
 -- what holds of every panel
 pub record IsShape (s : Shape) : Type 0 where
-  pub some_places : 3 ≤ length s.places
-  pub few_places : length s.places ≤ most_corners
+  pub some_places : LEAST_CORNERS ≤ length s.places
+  pub few_places : length s.places ≤ MOST_CORNERS
   pub near : All IsNear s.places
   pub distinct : IsDistinct s.places
   pub convex : IsConvex s.places
-  pub margin : s.margin ≤ 1000
+  pub margin : s.margin ≤ WIDEST_MARGIN
   pub room : HasRoom s.margin s.places
   pub corners : map place_of s.corners ≡ corners_of s.places
   pub whole : All (λ t. t.w ≡ pos 1) s.corners
@@ -39,3 +36,4 @@ pub record IsShape (s : Shape) : Type 0 where
   pub once : AllPairs (λ a b. ¬ (IsSamePoint a b)) s.shrunk
   pub shrunk_near : All IsNearPoint s.shrunk
   pub small : All IsSmall s.shrunk
+  pub shrunk_corners : All (IsInsetCorner s.margin s.places) s.shrunk

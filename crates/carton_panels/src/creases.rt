@@ -1,10 +1,12 @@
-ghost use Rattle.std.specs.Prelude.{◌≡◌, ◌<◌, ℕ, length, take, IsTrue, ◌↔◌, Any, slice_index_or, slice_get};
+ghost use Rattle.std.specs.Prelude.{◌≡◌, ◌<◌, ℕ, length, IsTrue, ◌↔◌, Any, slice_get};
 ghost use Rattle.carton_base.specs.declared.dieline.Ends.{Ends};
 ghost use Rattle.carton_base.specs.declared.dieline.Letter.{Letter};
 ghost use Rattle.carton_model.specs.Dielines.{IsDieline};
+ghost use Rattle.carton_panels.specs.Around.{around};
 ghost use Rattle.carton_panels.specs.Panels.{face_at};
-ghost use Rattle.carton_panels.specs.Creases.{Joins, IsBetween, neighbours, IsSideOf, IsCommonCrease, IsCommonCreaseAnswer};
+ghost use Rattle.carton_panels.specs.Creases.{Joins, HasEnds, IsSideOf, IsCommonCrease, IsCommonCreaseAnswer};
 
+use crate::around::next_in_round;
 use carton_base::{EdgeId, Ends, Letter, PanelId, RawDieline};
 
 // Whether an edge of this letter joins two faces.
@@ -17,45 +19,35 @@ fn joins(letter: Letter) -> bool
     }
 }
 
-// Whether the edge goes between p and q, either way.
-fn is_between(edge: Ends, p: u16, q: u16) -> bool
-    ensures { IsTrue result ↔ IsBetween edge p q }
+// Whether the two ends of the edge are p and q, either way round.
+fn has_ends(edge: Ends, p: u16, q: u16) -> bool
+    ensures { IsTrue result ↔ HasEnds edge p q }
 {
     (edge.p == p && edge.q == q) || (edge.p == q && edge.q == p)
 }
 
-// The pair of neighbouring vertices at k.
-fn neighbours_at(corners: &[u16], k: usize) -> (u16, u16)
-    requires { k < length corners.now }
-    ensures { result ≡ slice_index_or (neighbours corners.now) k result }
+// Whether the edge goes along a side of the face with these vertices.
+fn has_side(vertices: &[u16], edge: Ends) -> bool
+    ensures { IsTrue result ↔ Any (λ s. HasEnds edge s.from s.to) (around vertices.now) }
 {
-    let next = if k + 1 < corners.len() {
-        corners[k + 1]
-    } else {
-        corners[0]
-    };
-    (corners[k], next)
-}
-
-// Whether two neighbouring vertices are the ends of the edge.
-fn has_neighbours(corners: &[u16], edge: Ends) -> bool
-    ensures { IsTrue result ↔ Any (λ s. IsBetween edge s.0 s.1) (neighbours corners.now) }
-{
-    for k in 0..corners.len() {
-        let (p, q) = neighbours_at(corners, k);
-        if is_between(edge, p, q) {
+    for k in 0..vertices.len() {
+        if has_ends(
+            edge,
+            vertices[k],
+            vertices[next_in_round(k, vertices.len())],
+        ) {
             return true;
         }
     }
     false
 }
 
-// Whether no earlier edge goes between the two ends of this one.
+// Whether no earlier edge has the two ends of this one.
 fn is_first(earlier: &[Ends], edge: Ends) -> bool
-    ensures { IsTrue result ↔ ¬ (Any (λ e. IsBetween e edge.p edge.q) earlier.now) }
+    ensures { IsTrue result ↔ ¬ (Any (λ e. HasEnds e edge.p edge.q) earlier.now) }
 {
     for e in earlier {
-        if is_between(*e, edge.p, edge.q) {
+        if has_ends(*e, edge.p, edge.q) {
             return false;
         }
     }
@@ -63,11 +55,11 @@ fn is_first(earlier: &[Ends], edge: Ends) -> bool
 }
 
 // Whether edge k is a side of the face with these vertices.
-fn is_side(edges: &[Ends], corners: &[u16], k: usize) -> bool
+fn is_side(edges: &[Ends], vertices: &[u16], k: usize) -> bool
     requires { k < length edges.now }
-    ensures { IsTrue result ↔ IsSideOf edges.now corners.now k }
+    ensures { IsTrue result ↔ IsSideOf edges.now vertices.now k }
 {
-    has_neighbours(corners, edges[k]) && is_first(&edges[..k], edges[k])
+    has_side(vertices, edges[k]) && is_first(&edges[..k], edges[k])
 }
 
 // Whether the letter at k lets its edge join two faces.
@@ -95,21 +87,8 @@ fn is_common(raw: &RawDieline, first: &[u16], second: &[u16], k: usize) -> bool
     joins_at(raw.letters.as_slice(), k) && is_shared(raw.edges.as_slice(), first, second, k)
 }
 
-// The first edge that joins the two faces with these vertices.
-fn first_common(raw: &RawDieline, first: &[u16], second: &[u16]) -> Option<EdgeId>
-    requires dieline { IsDieline raw.now }
-    ensures { IsCommonCreaseAnswer raw.now first.now second.now result }
-{
-    for k in 0..raw.edges.len() {
-        if is_common(raw, first, second, k) {
-            return Some(EdgeId(k as u16));
-        }
-    }
-    None
-}
-
-/// The vertices of a face, as places in the dieline's list of vertices.
-pub fn corners_of(raw: &RawDieline, face: PanelId) -> &[u16]
+/// The vertices of a face, by their numbers in the dieline.
+pub fn vertices_of(raw: &RawDieline, face: PanelId) -> &[u16]
     requires { face.0 < length raw.now.faces }
     ensures { result.now ≡ (face_at raw.now face.0).corners }
 {
@@ -124,5 +103,12 @@ pub fn common_crease(raw: &RawDieline, a: PanelId, b: PanelId) -> Option<EdgeId>
     requires b { b.0 < length raw.now.faces }
     ensures { IsCommonCreaseAnswer raw.now (face_at raw.now a.0).corners (face_at raw.now b.0).corners result }
 {
-    first_common(raw, corners_of(raw, a), corners_of(raw, b))
+    let first = vertices_of(raw, a);
+    let second = vertices_of(raw, b);
+    for k in 0..raw.edges.len() {
+        if is_common(raw, first, second, k) {
+            return Some(EdgeId(k as u16));
+        }
+    }
+    None
 }

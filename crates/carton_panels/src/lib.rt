@@ -1,17 +1,21 @@
 //! Panels of a dieline: their corners, and what an inward margin leaves of them.
 #![tactic(auto)]
 
+mod around;
+mod convexity;
+mod corners;
 mod creases;
 mod crossings;
+mod dieline;
 mod error;
-mod flat;
+mod inset;
 mod lines;
-mod refusals;
-mod rooms;
+mod parting;
+mod room;
 mod shape;
-mod vertices;
 
 pub use creases::common_crease;
+pub use dieline::panels;
 pub use error::PanelError;
-pub use flat::flat_parted;
+pub use parting::flat_parted;
 pub use shape::{PanelShape, panel};

@@ -1,17 +1,18 @@
 ghost use Rattle.std.specs.Prelude.{◌≡◌, ◌<◌, ◌≤◌, length, IsTrue, ◌↔◌};
+ghost use Rattle.carton_base.specs.declared.limits.TheConstants.{WIDEST_MARGIN};
 ghost use Rattle.carton_model.specs.Dielines.{IsDieline};
+ghost use Rattle.carton_model.specs.Points.{IsSmall};
 ghost use Rattle.carton_panels.specs.Panels.{InPanel, places_of, face_at};
-ghost use Rattle.carton_panels.specs.Insets.{IsSmall};
 ghost use Rattle.carton_panels.specs.Shrinking.{InShrunk};
 ghost use Rattle.carton_panels.specs.Shapes.{IsShape};
 ghost use Rattle.carton_panels.specs.Answers.{IsPanelAnswer};
 
+use crate::convexity::{is_convex, is_repeating};
+use crate::corners::{places_of, true_corners};
 use crate::crossings::inset_corners;
 use crate::error::PanelError;
-use crate::lines::keeps_all;
-use crate::refusals::{is_convex, is_repeating};
-use crate::rooms::has_room;
-use crate::vertices::{places_of, true_corners};
+use crate::inset::Inset;
+use crate::room::has_room;
 use carton_base::{PanelId, Point, RawDieline, Triple};
 use std::alloc::Global;
 use std::marker::Model;
@@ -36,6 +37,17 @@ impl Model for PanelShape {
 }
 
 impl PanelShape {
+    // The panel's face with its sides moved inwards by the margin.
+    fn inset(&self) -> Inset<'_>
+        ensures places { result.places.now ≡ self.now.places }
+        ensures margin { result.margin ≡ self.now.margin }
+    {
+        Inset {
+            places: self.places.as_slice(),
+            margin: self.margin,
+        }
+    }
+
     /// The corners in the face's order, with w = 1.
     pub fn corners(&self) -> &[Triple]
         ensures { result.now ≡ self.now.corners }
@@ -56,7 +68,7 @@ impl PanelShape {
         requires { IsSmall t }
         ensures { IsTrue result ↔ InPanel self.now.places t.x t.y t.w }
     {
-        keeps_all(&self.places, 0, t)
+        self.inset().bare().keeps_all(t)
     }
 
     /// Whether the flat point lies in the shrunk panel, its sides among it.
@@ -64,7 +76,7 @@ impl PanelShape {
         requires { IsSmall t }
         ensures { IsTrue result ↔ InShrunk self.now.margin self.now.places t.x t.y t.w }
     {
-        keeps_all(&self.places, self.margin, t)
+        self.inset().keeps_all(t)
     }
 }
 
@@ -80,22 +92,27 @@ pub fn panel(
 ) -> Result<PanelShape, PanelError>
     requires dieline { IsDieline raw.now }
     requires face { face.0 < length raw.now.faces }
-    requires margin { margin ≤ 1000 }
+    requires margin { margin ≤ WIDEST_MARGIN }
     ensures { IsPanelAnswer face margin (places_of raw.now (face_at raw.now face.0)) result }
 {
     let places = places_of(alloc, raw, face)?;
-    if is_repeating(&places) {
+    let outline = places.as_slice();
+    if is_repeating(outline) {
         return Err(PanelError::RepeatedVertex(face));
     }
-    if !is_convex(&places) {
+    let inset = Inset {
+        places: outline,
+        margin,
+    };
+    if !is_convex(inset) {
         return Err(PanelError::NotConvex(face));
     }
-    let shrunk = inset_corners(alloc, &places, margin)?;
+    let shrunk = inset_corners(alloc, inset)?;
     let found = shrunk.as_slice();
-    if found.is_empty() || !has_room(&places, margin, found) {
+    if found.is_empty() || !has_room(inset, found) {
         return Err(PanelError::TooThin(face));
     }
-    let corners = true_corners(alloc, &places)?;
+    let corners = true_corners(alloc, inset)?;
     Ok(PanelShape {
         places,
         margin,

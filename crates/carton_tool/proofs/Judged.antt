@@ -4,8 +4,8 @@ use Rattle.std.proofs.lemmas.Bool.{cases_lt}
 use Rattle.std.proofs.lemmas.List.Elements.{All-push, All-weaker, All-nil, Contains-push, Contains-append_left}
 use Rattle.std.proofs.lemmas.List.Quantifiers.{all_pairs_push}
 use Rattle.carton_base.specs.declared.dieline.RawDieline.{RawDieline}
-use Rattle.carton_tool.specs.FlatDieline.{AreJudged, AreParted, IsBefore, IsAllPairs}
-use Rattle.carton_tool.specs.Pairs.{IsJudgedSoFar}
+use Rattle.carton_tool.specs.Flat.{AreJudged, AreParted, IsBefore, IsAllPairs}
+use Rattle.carton_tool.specs.FlatPairs.{IsJudgedSoFar}
 
 -- what is before (a, b) is before (a, b + 1)
 before_next : (a b : ℕ) (p : ℕ × ℕ) → IsBefore p (a, b) → IsBefore p (a, b + 1)

@@ -1,7 +1,7 @@
-pub mod ThreeWords
 pub mod Judged
-pub mod Making
-pub mod Files
+pub mod Parted
 pub mod Ordered
-pub mod Determined
+pub mod Commands
+pub mod Reaching
+pub mod FlatDetermined
 pub mod OneAnswer

@@ -1,6 +1,6 @@
 -- Ordered lists of pairs with the same members have one length.
 use Rattle.std.proofs.Common.{◌≡◌, ℕ, zero, suc, ◌⊎◌, inl, inr, List, [], ◌∷◌, length, arith, sym, subst, refl, AllPairs, Contains}
-use Rattle.carton_tool.specs.FlatDieline.{IsBefore}
+use Rattle.carton_tool.specs.Flat.{IsBefore}
 
 -- a member of x, xs is x or one of xs
 member_cases : {X : Type 0} → (x : X) (xs : List X) (p : X) → Contains (x ∷ xs) p → (x ≡ p) ⊎ Contains xs p

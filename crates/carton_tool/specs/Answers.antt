@@ -1,18 +1,50 @@
 -- Which text and status answer the words and the bytes of the files that they name.
-use Rattle.std.specs.Prelude.{◌≡◌, ◌⊎◌, ◌↔◌, ⊤, ℕ, ◌<◌, List, [], ◌∷◌, length, Option, Some, None, Any, Contains}
-use Rattle.carton_io.specs.Told.{IfTold}
+use Rattle.std.specs.Prelude.{◌≡◌, ◌⊎◌, ⊤, ℕ, List, length, codes, Option, MatchOption, Result, Ok, Err}
 use Rattle.carton_tool.specs.Words.{Command, flat, IsCommand, IsNoCommand, files_of}
-use Rattle.carton_tool.specs.Texts.{text_of, status_of}
-use Rattle.carton_tool.specs.FlatDieline.{IsFlatAnswer, longest_file}
+use Rattle.carton_tool.specs.Files.{AreTold, IsAsHad, IsReached, first_long, file_at}
+use Rattle.carton_tool.specs.Lines.{line}
+use Rattle.carton_tool.specs.Refusals.{refusal_text}
+use Rattle.carton_tool.specs.Flat.{IsFlat, flat_text, flat_status}
+use Rattle.carton_tool.specs.declared.refusal.Rule.TheVariants.{TooLong}
+use Rattle.carton_tool.specs.declared.refusal.BadFile.{BadFile}
 use Rattle.carton_tool.specs.declared.answer.Answer.{Answer}
-use Rattle.carton_tool.specs.declared.answer.Answer.TheVariants.{BadWords}
+use Rattle.carton_tool.specs.declared.answer.Answer.TheVariants.{BadWords, Bad, Flat}
 use Rattle.carton_tool.specs.declared.status.Status.{Status}
+use Rattle.carton_tool.specs.declared.status.Status.TheVariants.{BadInput, BadWords as NoWords}
 
--- the answer of a command for the bytes of its files, in the order of reading
+-- what is printed
+abbrev pub text_of : Answer → List ℕ
+text_of BadWords = line (codes "bad words")
+text_of (Bad file) = refusal_text file
+text_of (Flat answer) = flat_text answer
+
+-- the status that goes with it
+abbrev pub status_of : Answer → Status
+status_of BadWords = NoWords
+status_of (Bad file) = BadInput
+status_of (Flat answer) = flat_status answer
+
+-- the answer that a command's outcome is: one of its own, or that a file is bad
+abbrev pub answer_of : {A : Type 0} → (A → Answer) → Result A BadFile → Answer
+answer_of own (Ok answer) = own answer
+answer_of own (Err file) = Bad file
+
+-- the answer is that of an outcome that P allows
+abbrev pub IsOwn : {A : Type 0} → (A → Answer) → (Result A BadFile → Type 0) → Answer → Type 0
+IsOwn {A} own P answer = (outcome : Result A BadFile) × P outcome × (answer ≡ answer_of own outcome)
+
+-- the answer of a command for the bytes of its files, none of which is too long
+abbrev pub IsAnswerTo : Command → List (List ℕ) → Answer → Type 0
+IsAnswerTo (flat dieline margin) files = IsOwn Flat (IsFlat margin (file_at 0 files))
+
+-- commands whose answer is a function of the bytes of their files
+abbrev pub IsFunction : Command → Type 0
+IsFunction (flat dieline margin) = ⊤
+
+-- the answer of a command for the bytes of its files: the first that is too long is told before any is looked at
 abbrev pub IsAnswerOf : Command → List (List ℕ) → Answer → Type 0
-IsAnswerOf (flat name margin) [] answer = ⊥
-IsAnswerOf (flat name margin) (bytes ∷ []) answer = IsFlatAnswer margin bytes answer
-IsAnswerOf (flat name margin) (bytes ∷ more ∷ others) answer = ⊥
+IsAnswerOf c files answer = (length files ≡ length (files_of c))
+    × MatchOption (first_long (files_of c) files) (IsAnswerTo c files answer) (λ kind. answer ≡ Bad (record { kind = kind; rule = TooLong }))
 
 -- the answer for any words: `bad words` where they are no command
 abbrev pub IsAnswer : List (List ℕ) → List (List ℕ) → Answer → Type 0
@@ -22,40 +54,20 @@ IsAnswer words files answer = (IsNoCommand words × (answer ≡ BadWords)) ⊎ (
 abbrev pub Answers : List (List ℕ) → List (List ℕ) → List ℕ → Status → Type 0
 Answers words files text status = (answer : Answer) × IsAnswer words files answer × (text ≡ text_of answer) × (status ≡ status_of answer)
 
--- the words and the bytes of the files determine the text and the status
+-- the words and the bytes of the files determine the text and the status of bad words, of a command whose answer is a function, and of every refusal of a file
 abbrev pub IsDetermined : List (List ℕ) → Type 0
-IsDetermined words = (files : List (List ℕ)) (text other : List ℕ) (status another : Status) → Answers words files text status → Answers words files other another
-    → (text ≡ other) × (status ≡ another)
-
--- each file has the told bytes of its name, where they are told
-abbrev pub AreTold : (List ℕ → Option (List ℕ)) → List (List ℕ) → List (List ℕ) → Type 0
-AreTold holds [] [] = ⊤
-AreTold holds [] (file ∷ files) = ⊥
-AreTold holds (name ∷ names) [] = ⊥
-AreTold holds (name ∷ names) (file ∷ files) = IfTold (holds name) (λ bytes. file ≡ bytes) × AreTold holds names files
-
--- one of the files is too long exactly where the last read had too many bytes
-abbrev pub IsLongAsHad : ℕ → List (List ℕ) → Type 0
-IsLongAsHad had files = Any (λ file. longest_file < length file) files ↔ (longest_file < had)
+IsDetermined words = (files : List (List ℕ)) (text other : List ℕ) (status another : Status) → ((c : Command) → IsCommand words c → IsFunction c) ⊎ (status ≡ BadInput)
+    → Answers words files text status → Answers words files other another → (text ≡ other) × (status ≡ another)
 
 -- these may be the files that the words name: they have the told bytes, and one is too long exactly where the last read had too many bytes
 pub record AreFiles (holds : List ℕ → Option (List ℕ)) (had : ℕ) (words files : List (List ℕ)) : Type 0 where
   pub told : (c : Command) → IsCommand words c → AreTold holds (files_of c) files
-  pub long : (c : Command) → IsCommand words c → IsLongAsHad had files
+  pub long : (c : Command) → IsCommand words c → IsAsHad had (files_of c) files
 
 -- what was written grew as `grew` says by a text that answers the words with this status, for some bytes of the files that they name
 abbrev pub IsAnswered : (List ℕ → Option (List ℕ)) → ℕ → List (List ℕ) → Status → (List ℕ → Type 0) → Type 0
 IsAnswered holds had words status grew = (files : List (List ℕ)) × AreFiles holds had words files × (text : List ℕ) × Answers words files text status × grew text
 
--- the answer is that of the command, for some bytes of its files
-abbrev pub AreAnswered : (List ℕ → Option (List ℕ)) → ℕ → Command → Answer → Type 0
-AreAnswered holds had c answer = (files : List (List ℕ)) × AreTold holds (files_of c) files × IsLongAsHad had files × IsAnswerOf c files answer
-
--- the name is one of those that the command names
-abbrev pub IsNameOf : Command → Option (List ℕ) → Type 0
-IsNameOf c None = ⊥
-IsNameOf c (Some name) = Contains (files_of c) name
-
--- the name is one of those that the words name
-abbrev pub IsNamed : List (List ℕ) → Option (List ℕ) → Type 0
-IsNamed words name = (c : Command) × IsCommand words c × IsNameOf c name
+-- the name is that of a file that the words name, before which none is told to be too long
+abbrev pub IsNamed : (List ℕ → Option (List ℕ)) → List (List ℕ) → Option (List ℕ) → Type 0
+IsNamed holds words name = (c : Command) × IsCommand words c × IsReached holds (files_of c) name

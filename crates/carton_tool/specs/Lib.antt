@@ -1,7 +1,9 @@
+pub mod Lines
+pub mod Files
 pub mod Words
-pub mod Texts
-pub mod FlatDieline
-pub mod Answers
 pub mod Asked
-pub mod Pairs
-pub mod Rows
+pub mod Refusals
+pub mod Flat
+pub mod FlatPairs
+pub mod Answers
+pub mod Reading

@@ -2,6 +2,9 @@
 use Rattle.std.specs.Prelude.{◌≡◌, ◌≢◌, ℕ, ◌≤◌, List, [], ◌∷◌, codes, Option, Some, None, map, String, string_bytes}
 use Rattle.std.specs.declared.alloc.Global.{Global}
 use Rattle.std.specs.Fmt.{decimal}
+use Rattle.carton_base.specs.declared.limits.TheConstants.{WIDEST_MARGIN}
+use Rattle.carton_tool.specs.Files.{Named}
+use Rattle.carton_tool.specs.declared.files.FileKind.TheVariants.{Dieline}
 
 -- the bytes of the words
 abbrev pub texts : List (String Global) → List (List ℕ)
@@ -11,21 +14,30 @@ texts words = map string_bytes words
 pub data Command : Type 0 where
   flat : List ℕ → ℕ → Command
 
+-- the words of a command; a number is in decimal, with no sign or leading zero
+abbrev pub spelled : Command → List (List ℕ)
+spelled (flat dieline margin) = codes "flat" ∷ dieline ∷ decimal margin ∷ []
+
 -- the numbers of a command lie in their ranges
 abbrev pub AreBounded : Command → Type 0
-AreBounded (flat name margin) = margin ≤ 1000
+AreBounded (flat dieline margin) = margin ≤ WIDEST_MARGIN
 
--- the words are this command: a file's name isn't empty, and a number is in decimal, with no sign or leading zero
+-- the files that a command reads, in the order of reading
+abbrev pub files_of : Command → List Named
+files_of (flat dieline margin) = record { kind = Dieline; name = dieline } ∷ []
+
+-- no name is empty
+abbrev pub AreNames : List Named → Type 0
+AreNames [] = Unit {0}
+AreNames (f ∷ named) = (f.name ≢ []) × AreNames named
+
+-- the words are this command
 abbrev pub IsCommand : List (List ℕ) → Command → Type 0
-IsCommand words (flat name margin) = (words ≡ codes "flat" ∷ name ∷ decimal margin ∷ []) × (name ≢ []) × AreBounded (flat name margin)
+IsCommand words c = (words ≡ spelled c) × AreNames (files_of c) × AreBounded c
 
 -- the words are no command
 abbrev pub IsNoCommand : List (List ℕ) → Type 0
 IsNoCommand words = (c : Command) → ¬ (IsCommand words c)
-
--- the names of the files that a command reads, in the order of reading
-abbrev pub files_of : Command → List (List ℕ)
-files_of (flat name margin) = name ∷ []
 
 -- the words are the command that was found, or none where none was found
 abbrev pub IsFound : List (List ℕ) → Option Command → Type 0

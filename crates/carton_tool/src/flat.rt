@@ -1,34 +1,47 @@
-ghost use Rattle.std.specs.Prelude.{◌≡◌, ◌≢◌, ◌↔◌, ℕ, ◌+◌, ◌*◌, ◌<◌, ◌≤◌, length, IfOk, IfErr, IsTrue, Option, None, false, Err};
+ghost use Rattle.std.specs.Prelude.{◌≡◌, ◌↔◌, ◌+◌, ◌<◌, ◌≤◌, length, string_bytes, IfOk, None, false};
 ghost use Rattle.carton_model.specs.Dielines.{IsDieline};
-ghost use Rattle.carton_fold.specs.Dieline.{dieline_of};
 ghost use Rattle.carton_panels.specs.Creases.{IsCommonCreaseAnswer};
-ghost use Rattle.carton_tool.specs.FlatDieline.{panel_places, ArePanels, IsAnswerFor, IsAnswerRead};
-ghost use Rattle.carton_panels.specs.Answers.{IsPanelAnswer};
 ghost use Rattle.carton_panels.specs.Panels.{face_at};
-ghost use Rattle.carton_base.specs.declared.ids.PanelId.{PanelId};
-ghost use Rattle.carton_tool.specs.Pairs.{AreShapes, IsShapeOf, IsJudgedSoFar};
-ghost use Rattle.carton_tool.specs.Rows.{IsRow};
+ghost use Rattle.carton_tool.specs.Refusals.{IsOutcome};
+ghost use Rattle.carton_panels.specs.DielinePanels.{AreShapes};
+ghost use Rattle.carton_tool.specs.Flat.{flat_text as flat_text_of, flat_status as flat_status_of, IsVerdict, IsFlatOf, IsFlat};
+ghost use Rattle.carton_tool.specs.FlatPairs.{IsJudgedSoFar, IsRow};
 
-use crate::answer::Answer;
-use carton_base::{OutOfMemory, PanelId, RawDieline};
+use crate::files::FileKind;
+use crate::refusal::{BadFile, Refusal, Rule};
+use crate::status::Status;
+use carton_base::{PanelId, RawDieline, WIDEST_MARGIN};
 use carton_fold::{FoldError, read_dieline};
-use carton_panels::{PanelError, PanelShape, common_crease, flat_parted, panel};
-use std::alloc::Global;
+use carton_panels::{PanelError, PanelShape, common_crease, flat_parted, panels};
+use std::alloc::{AllocError, Global};
 
-// The shapes of all panels, or why the first face that is none is refused.
-fn shapes_of(alloc: Global, raw: &RawDieline, margin: u16) -> Result<Vec<PanelShape>, PanelError>
-    requires valid { IsDieline raw.now }
-    requires margin { margin ≤ 1000 }
-    ensures shapes { IfOk result (λ v. AreShapes margin raw.now v.items) }
-    ensures whole { IfOk result (λ v. length v.items ≡ length raw.now.faces) }
-    ensures refused { IfErr result (λ e. e ≢ PanelError.Memory → (a : PanelId) × (a.0 < length raw.now.faces)
-        × ArePanels margin raw.now a.0 × IsPanelAnswer a margin (panel_places raw.now a.0) (Err e)) }
+/// The answer of `flat`: all pairs that share no crease are parted, with their number, or the first
+/// pair that isn't.
+#[derive(Clone, Copy, Debug, PartialEq, Eq)]
+pub enum FlatAnswer {
+    Clear(u32),
+    Blocked(PanelId, PanelId),
+}
+
+/// The status that goes with an answer.
+pub fn flat_status(answer: FlatAnswer) -> Status
+    ensures { result ≡ flat_status_of answer }
 {
-    let mut shapes = Vec::new(alloc);
-    for face in 0..raw.faces.len() {
-        shapes.push(panel(alloc, raw, PanelId(face as u8), margin)?)?;
+    match answer {
+        FlatAnswer::Clear(_) => Status::Done,
+        FlatAnswer::Blocked(_, _) => Status::Refused,
     }
-    Ok(shapes)
+}
+
+/// The text of an answer, with its line feed.
+pub fn flat_text(alloc: Global, answer: FlatAnswer) -> Result<String, AllocError>
+    ensures { IfOk result (λ text. string_bytes text ≡ flat_text_of answer) }
+{
+    let text = match answer {
+        FlatAnswer::Clear(pairs) => format!(in alloc; "clear {pairs}\n")?,
+        FlatAnswer::Blocked(PanelId(a), PanelId(b)) => format!(in alloc; "blocked {a} {b}\n")?,
+    };
+    Ok(text)
 }
 
 // Whether two panels share a crease.
@@ -47,7 +60,7 @@ fn share_crease(raw: &RawDieline, a: PanelId, b: PanelId) -> bool
 // What came of judging a panel against the panels after it.
 enum Row {
     Parted(u32),
-    Blocked(PanelId),
+    Unparted(PanelId),
 }
 
 // Judges panel a against the panels after it, after so many pairs of earlier panels.
@@ -66,7 +79,7 @@ fn judge_row(raw: &RawDieline, margin: u16, shapes: &[PanelShape], a: usize, bef
             continue;
         }
         if !flat_parted(&shapes[a], &shapes[b]) {
-            return Row::Blocked(other);
+            return Row::Unparted(other);
         }
         count += 1;
     }
@@ -74,43 +87,49 @@ fn judge_row(raw: &RawDieline, margin: u16, shapes: &[PanelShape], a: usize, bef
 }
 
 // Judges all pairs of panels that share no crease.
-fn judge(raw: &RawDieline, margin: u16, shapes: &[PanelShape]) -> Answer
+fn judge(raw: &RawDieline, margin: u16, shapes: &[PanelShape]) -> FlatAnswer
     requires valid { IsDieline raw.now }
     requires shapes { AreShapes margin raw.now shapes.now }
     requires whole { length shapes.now ≡ length raw.now.faces }
-    ensures { IsAnswerFor margin raw.now result }
+    ensures { IsVerdict margin raw.now result }
 {
     let mut count = 0;
     for a in 0..shapes.len() {
         match judge_row(raw, margin, shapes, a, count) {
             Row::Parted(judged) => count = judged,
-            Row::Blocked(b) => return Answer::FlatBlocked(PanelId(a as u8), b),
+            Row::Unparted(b) => return FlatAnswer::Blocked(PanelId(a as u8), b),
         }
     }
-    Answer::FlatClear(count)
+    FlatAnswer::Clear(count)
 }
 
-// The answer for a dieline that was read.
-fn answer_for(alloc: Global, raw: &RawDieline, margin: u16) -> Result<Answer, OutOfMemory>
+// The outcome for a dieline that was read.
+fn flat_of(alloc: Global, raw: &RawDieline, margin: u16) -> Result<FlatAnswer, Refusal>
     requires valid { IsDieline raw.now }
-    requires margin { margin ≤ 1000 }
-    ensures { IfOk result (IsAnswerFor margin raw.now) }
+    requires margin { margin ≤ WIDEST_MARGIN }
+    ensures { IsOutcome (IsFlatOf margin raw.now) result }
 {
-    match shapes_of(alloc, raw, margin) {
+    match panels(alloc, raw, margin) {
         Ok(shapes) => Ok(judge(raw, margin, &shapes)),
-        Err(PanelError::Memory) => Err(OutOfMemory),
-        Err(e) => Ok(Answer::BadPanel(e)),
+        Err(PanelError::Memory) => Err(Refusal::NoMemory),
+        Err(e) => Err(Refusal::Bad(BadFile {
+            kind: FileKind::Dieline,
+            rule: Rule::Panel(e),
+        })),
     }
 }
 
 /// The answer of `flat` for the bytes of a dieline's file.
-pub fn flat_answer(alloc: Global, bytes: &[u8], margin: u16) -> Result<Answer, OutOfMemory>
-    requires { margin ≤ 1000 }
-    ensures { IfOk result (IsAnswerRead margin (dieline_of bytes.now)) }
+pub fn flat_answer(alloc: Global, bytes: &[u8], margin: u16) -> Result<FlatAnswer, Refusal>
+    requires { margin ≤ WIDEST_MARGIN }
+    ensures { IsOutcome (IsFlat margin bytes.now) result }
 {
     match read_dieline(alloc, bytes) {
-        Ok(raw) => answer_for(alloc, &raw, margin),
-        Err(FoldError::Memory) => Err(OutOfMemory),
-        Err(e) => Ok(Answer::BadDieline(e)),
+        Ok(raw) => flat_of(alloc, &raw, margin),
+        Err(FoldError::Memory) => Err(Refusal::NoMemory),
+        Err(e) => Err(Refusal::Bad(BadFile {
+            kind: FileKind::Dieline,
+            rule: Rule::Fold(e),
+        })),
     }
 }

@@ -2,13 +2,17 @@
 #![tactic(auto)]
 
 mod answer;
+mod files;
 mod flat;
 mod halt;
+mod printed;
+mod refusal;
 mod status;
 mod steady;
 mod tool;
 mod words;
 
+pub use printed::{Printed, run_into};
 pub use status::Status;
 pub use steady::run_steadily;
 pub use tool::run;

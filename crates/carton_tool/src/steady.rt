@@ -1,4 +1,4 @@
-ghost use Rattle.std.specs.Prelude.{⊤, ◌≢◌, [], Some, unwrap_or};
+ghost use Rattle.std.specs.Prelude.{⊤, ◌≡◌, ◌≢◌, ℕ, List, [], Some, unwrap_or};
 ghost use Rattle.carton_io.specs.Files.{content_of};
 ghost use Rattle.carton_tool.specs.Words.{texts};
 ghost use Rattle.carton_tool.specs.Answers.{IsAnswered};
@@ -16,6 +16,7 @@ pub fn run_steadily(
     shelf: &mut SteadyShelf,
     sink: &mut SteadySink,
 ) -> Status
+    ensures stays { (name : List ℕ) → unwrap_or (content_of shelf.new.files name) [] ≡ unwrap_or (content_of shelf.old.files name) [] }
     ensures reads { result ≢ Status.ReadFault }
     ensures writes { result ≢ Status.WriteFault }
     ensures answered { result ≢ Status.NoMemory

@@ -1,53 +1,45 @@
-ghost use Rattle.std.specs.Prelude.{◌≡◌, ◌≢◌, ◌⊎◌, ℕ, ◌<◌, ◌≤◌, List, Option, None, Some, IfOk, IfErr, IsErrOf, OnErr, length, ◌↔◌};
-ghost use Rattle.carton_io.specs.Told.{Rose, IfTold, Grew, GrewInPart};
-ghost use Rattle.carton_tool.specs.Words.{texts, Command, flat, IsCommand, IsNoCommand, AreBounded};
+ghost use Rattle.std.specs.Prelude.{◌≡◌, ◌≢◌, ◌⊎◌, ℕ, ◌≤◌, List, length, IfOk, IfSome, IsErrOf};
+ghost use Rattle.std.specs.Io.KnownBytes.{Appends};
+ghost use Rattle.carton_io.specs.Told.{raised, Rose, GrewInPart};
+ghost use Rattle.carton_tool.specs.Words.{texts, Command, flat, files_of, IsCommand, IsNoCommand, AreBounded};
 ghost use Rattle.carton_tool.specs.Asked.{asked};
-ghost use Rattle.carton_tool.specs.Texts.{text_of, status_of};
-ghost use Rattle.carton_tool.specs.Answers.{IsAnswer, AreFiles, AreAnswered, IsAnswered, IsDetermined, IsNameOf, IsNamed};
+ghost use Rattle.carton_tool.specs.Refusals.{IsOutcome};
+ghost use Rattle.carton_tool.specs.Answers.{text_of, status_of, answer_of as answer_of_outcome, IsAnswerTo, IsAnswer, AreFiles, IsAnswered, IsDetermined, IsNamed};
 
-use crate::answer::{Answer, FileKind, status, text};
+use crate::answer::{Answer, status, text};
+use crate::files::{Unread, bytes_at, read_all};
 use crate::flat::flat_answer;
 use crate::halt::Halt;
+use crate::refusal::{BadFile, Refusal, Rule};
 use crate::status::Status;
-use crate::words::{Asked, command_of};
-use carton_io::{Shelf, ShelfError, Sink, SinkFault};
+use crate::words::{Asked, command_of, wanted_by};
+use carton_base::{Listed, OutOfMemory};
+use carton_io::{Shelf, Sink, SinkFault};
 use std::alloc::Global;
 
-const LONGEST_FILE: usize = 1 << 20;
-
-// The answer of `flat` over a shelf.
-fn answer_to_flat<S: Shelf>(
-    alloc: Global,
-    dieline: &str,
-    margin: u16,
-    shelf: &mut S,
-) -> Result<Answer, Halt>
-    requires { margin ≤ 1000 }
-    ensures answered { IfOk result (AreAnswered (S.holds shelf.old) (S.had shelf.new) (flat dieline.now margin)) }
-    ensures fault { IsErrOf result Halt.ReadFault → Rose (S.faults shelf.old) (S.faults shelf.new) }
-    ensures named { IsErrOf result Halt.ReadFault → IfTold (S.last_failed shelf.new) (IsNameOf (flat dieline.now margin)) }
-    ensures stays { (name : List ℕ) → S.holds shelf.new name ≡ S.holds shelf.old name }
-    ensures later { S.faults shelf.old ≤ S.faults shelf.new }
+// What a command gives for the bytes of its files.
+fn outcome_of(alloc: Global, command: Asked<'_>, files: &[Listed<u8>]) -> Result<Answer, Refusal>
+    requires bounded { AreBounded (asked command) }
+    requires whole { length files.now ≡ length (files_of (asked command)) }
+    ensures { IsOutcome (λ outcome. IsAnswerTo (asked command.entry) files.now (answer_of_outcome (λ answer. answer) outcome)) result }
 {
-    match shelf.read(alloc, dieline, LONGEST_FILE) {
-        Ok(bytes) => Ok(flat_answer(alloc, &bytes, margin)?),
-        Err(ShelfError::TooLong) => Ok(Answer::TooLong(FileKind::Dieline)),
-        Err(ShelfError::Failed) => Err(Halt::ReadFault),
-        Err(ShelfError::Memory) => Err(Halt::NoMemory),
+    match command {
+        Asked::Flat { margin, .. } => {
+            Ok(Answer::Flat(flat_answer(alloc, bytes_at(files, 0), margin)?))
+        }
     }
 }
 
-// The answer of a command over a shelf.
-fn answer_to<S: Shelf>(alloc: Global, command: Asked<'_>, shelf: &mut S) -> Result<Answer, Halt>
-    requires { AreBounded (asked command) }
-    ensures answered { IfOk result (AreAnswered (S.holds shelf.old) (S.had shelf.new) (asked command.entry)) }
-    ensures fault { IsErrOf result Halt.ReadFault → Rose (S.faults shelf.old) (S.faults shelf.new) }
-    ensures named { IsErrOf result Halt.ReadFault → IfTold (S.last_failed shelf.new) (IsNameOf (asked command.entry)) }
-    ensures stays { (name : List ℕ) → S.holds shelf.new name ≡ S.holds shelf.old name }
-    ensures later { S.faults shelf.old ≤ S.faults shelf.new }
+// The answer of a command for the bytes of its files.
+fn answer_to(alloc: Global, command: Asked<'_>, files: &[Listed<u8>]) -> Result<Answer, OutOfMemory>
+    requires bounded { AreBounded (asked command) }
+    requires whole { length files.now ≡ length (files_of (asked command)) }
+    ensures { IfOk result (IsAnswerTo (asked command.entry) files.now) }
 {
-    match command {
-        Asked::Flat { dieline, margin } => answer_to_flat(alloc, dieline, margin, shelf),
+    match outcome_of(alloc, command, files) {
+        Ok(answer) => Ok(answer),
+        Err(Refusal::Bad(file)) => Ok(Answer::Bad(file)),
+        Err(Refusal::NoMemory) => Err(OutOfMemory),
     }
 }
 
@@ -56,24 +48,37 @@ fn answer_of<S: Shelf>(alloc: Global, words: &[String], shelf: &mut S) -> Result
     ensures answered { IfOk result (λ answer. (files : List (List ℕ))
         × AreFiles (S.holds shelf.old) (S.had shelf.new) (texts words.now) files × IsAnswer (texts words.now) files answer) }
     ensures fault { IsErrOf result Halt.ReadFault → Rose (S.faults shelf.old) (S.faults shelf.new) }
+    ensures once { IsErrOf result Halt.ReadFault → S.faults shelf.new ≡ raised (S.faults shelf.old) }
     ensures command { IsErrOf result Halt.ReadFault → (c : Command) × IsCommand (texts words.now) c }
-    ensures named { IsErrOf result Halt.ReadFault → IfTold (S.last_failed shelf.new) (IsNamed (texts words.now)) }
+    ensures named { IsErrOf result Halt.ReadFault → IfSome (S.last_failed shelf.new) (IsNamed (S.holds shelf.old) (texts words.now)) }
+    ensures steady { (IsErrOf result Halt.ReadFault → ⊥) → S.faults shelf.new ≡ S.faults shelf.old }
+    ensures unnamed { (IsErrOf result Halt.ReadFault → ⊥) → S.last_failed shelf.new ≡ S.last_failed shelf.old }
     ensures stays { (name : List ℕ) → S.holds shelf.new name ≡ S.holds shelf.old name }
     ensures later { S.faults shelf.old ≤ S.faults shelf.new }
 {
-    match command_of(alloc, words)? {
-        Some(command) => answer_to(alloc, command, shelf),
-        None => Ok(Answer::BadWords),
+    let Some(command) = command_of(alloc, words)? else {
+        return Ok(Answer::BadWords);
+    };
+    let wanted = wanted_by(alloc, command)?;
+    match read_all(alloc, &wanted, shelf) {
+        Ok(files) => Ok(answer_to(alloc, command, &files)?),
+        Err(Unread::TooLong(kind)) => Ok(Answer::Bad(BadFile {
+            kind,
+            rule: Rule::TooLong,
+        })),
+        Err(Unread::Failed) => Err(Halt::ReadFault),
+        Err(Unread::NoMemory) => Err(Halt::NoMemory),
     }
 }
 
 // Puts the text of an answer, by one call.
-fn say<K: Sink>(alloc: Global, answer: Answer, sink: &mut K) -> Status
+fn say<K: Sink>(alloc: Global, answer: &Answer, sink: &mut K) -> Status
     ensures said { result ≢ Status.NoMemory → result ≢ Status.WriteFault
-        → (result ≡ status_of answer) × Grew (K.written sink.old) (K.written sink.new) (text_of answer) }
-    ensures part { result ≡ Status.WriteFault → GrewInPart (K.written sink.old) (K.written sink.new) (text_of answer) }
+        → (result ≡ status_of answer.now) × Appends (K.written sink.old) (K.written sink.new) (text_of answer.now) }
+    ensures part { result ≡ Status.WriteFault → GrewInPart (K.written sink.old) (K.written sink.new) (text_of answer.now) }
     ensures silent { result ≡ Status.NoMemory → K.written sink.new ≡ K.written sink.old }
     ensures cause { result ≡ Status.WriteFault → Rose (K.faults sink.old) (K.faults sink.new) }
+    ensures steady { result ≢ Status.WriteFault → K.faults sink.new ≡ K.faults sink.old }
     ensures later { K.faults sink.old ≤ K.faults sink.new }
 {
     let Ok(text) = text(alloc, answer) else {
@@ -99,9 +104,10 @@ pub fn run<S: Shelf, K: Sink>(
     ensures no_command { IsNoCommand (texts words.now)
         → (result ≡ Status.BadWords) ⊎ (result ≡ Status.WriteFault) ⊎ (result ≡ Status.NoMemory) }
 
-    // A fault of reading comes only from the shelf, at a file that the words name.
+    // A fault of reading comes only from the shelf, once, at a file that the words name.
     ensures read_fault { result ≡ Status.ReadFault → Rose (S.faults shelf.old) (S.faults shelf.new) }
-    ensures read_name { result ≡ Status.ReadFault → IfTold (S.last_failed shelf.new) (IsNamed (texts words.now)) }
+    ensures read_once { result ≡ Status.ReadFault → S.faults shelf.new ≡ raised (S.faults shelf.old) }
+    ensures read_name { result ≡ Status.ReadFault → IfSome (S.last_failed shelf.new) (IsNamed (S.holds shelf.old) (texts words.now)) }
 
     // A fault of writing comes only from the sink, after a front of an allowed text.
     ensures write_fault { result ≡ Status.WriteFault → Rose (K.faults sink.old) (K.faults sink.new) }
@@ -111,18 +117,21 @@ pub fn run<S: Shelf, K: Sink>(
     // Without an answer nothing is written, and else exactly one allowed text.
     ensures silent { (result ≡ Status.NoMemory) ⊎ (result ≡ Status.ReadFault) → K.written sink.new ≡ K.written sink.old }
     ensures answered { result ≢ Status.NoMemory → result ≢ Status.ReadFault → result ≢ Status.WriteFault
-        → IsAnswered (S.holds shelf.old) (S.had shelf.new) (texts words.now) result (Grew (K.written sink.old) (K.written sink.new)) }
+        → IsAnswered (S.holds shelf.old) (S.had shelf.new) (texts words.now) result (Appends (K.written sink.old) (K.written sink.new)) }
 
     // The words and the bytes of the files that they name determine the text and the status.
     ensures determined { IsDetermined (texts words.now) }
 
-    // What the shelf holds stays, and no count of faults falls.
+    // What the shelf holds stays, and no count of faults rises without its status.
     ensures stays { (name : List ℕ) → S.holds shelf.new name ≡ S.holds shelf.old name }
+    ensures steady { result ≢ Status.ReadFault → S.faults shelf.new ≡ S.faults shelf.old }
+    ensures unnamed { result ≢ Status.ReadFault → S.last_failed shelf.new ≡ S.last_failed shelf.old }
+    ensures sink_steady { result ≢ Status.WriteFault → K.faults sink.new ≡ K.faults sink.old }
     ensures shelf_later { S.faults shelf.old ≤ S.faults shelf.new }
     ensures sink_later { K.faults sink.old ≤ K.faults sink.new }
 {
     match answer_of(alloc, words, shelf) {
-        Ok(answer) => say(alloc, answer, sink),
+        Ok(answer) => say(alloc, &answer, sink),
         Err(Halt::ReadFault) => Status::ReadFault,
         Err(Halt::NoMemory) => Status::NoMemory,
     }

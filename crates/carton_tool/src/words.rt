@@ -1,12 +1,11 @@
-ghost use Rattle.std.specs.Prelude.{◌≡◌, ◌↔◌, ◌≤◌, ◌≢◌, ℕ, [], IsTrue, IfOk, Option, Some, None, option_map, MatchOption};
+ghost use Rattle.std.specs.Prelude.{◌≡◌, ◌↔◌, ◌≤◌, ◌≢◌, ℕ, List, [], IsTrue, IfOk, Option, Some, None, map, option_map, MatchOption};
 ghost use Rattle.std.specs.Fmt.{decimal};
-ghost use Rattle.carton_tool.specs.Words.{texts, IsFound};
-ghost use Rattle.carton_tool.specs.Asked.{asked};
+ghost use Rattle.carton_tool.specs.Words.{texts, flat, files_of, IsCommand, IsFound};
+ghost use Rattle.carton_tool.specs.Asked.{asked, named};
 
-use carton_base::OutOfMemory;
+use crate::files::{FileKind, Wanted};
+use carton_base::{OutOfMemory, WIDEST_MARGIN};
 use std::alloc::{AllocError, Global};
-
-const WIDEST_MARGIN: u16 = 1000;
 
 /// What a command line asks for. Names of files are as the words give them.
 #[derive(Clone, Copy, Debug)]
@@ -29,8 +28,8 @@ fn is_name(word: &str) -> bool
 // The margin that a word spells in decimal, with no sign or leading zero.
 fn margin_of(alloc: Global, word: &str) -> Result<Option<u16>, AllocError>
     ensures { IfOk result (λ m. MatchOption m
-        ((n : ℕ) → n ≤ 1000 → word.now ≢ decimal n)
-        (λ n. (n ≤ 1000) × (word.now ≡ decimal n))) }
+        ((n : ℕ) → n ≤ WIDEST_MARGIN → word.now ≢ decimal n)
+        (λ n. (n ≤ WIDEST_MARGIN) × (word.now ≡ decimal n))) }
 {
     let Ok(margin) = word.parse::<u16>() else {
         return Ok(None);
@@ -43,23 +42,47 @@ fn margin_of(alloc: Global, word: &str) -> Result<Option<u16>, AllocError>
     }
 }
 
+// The command `flat` where the words are one.
+fn flat_in<'a>(alloc: Global, words: &'a [String]) -> Result<Option<Asked<'a>>, OutOfMemory>
+    ensures { IfOk result (λ c. MatchOption c
+        ((dieline : List ℕ) (margin : ℕ) → ¬ (IsCommand (texts words.now) (flat dieline margin)))
+        (λ a. IsCommand (texts words.now) (asked a))) }
+{
+    let [command, dieline, margin] = words else {
+        return Ok(None);
+    };
+    if !is_same(command.as_str(), "flat") || !is_name(dieline.as_str()) {
+        return Ok(None);
+    }
+    match margin_of(alloc, margin.as_str())? {
+        Some(margin) => Ok(Some(Asked::Flat {
+            dieline: dieline.as_str(),
+            margin,
+        })),
+        None => Ok(None),
+    }
+}
+
 /// The command that the words are; None where they are none.
 pub fn command_of<'a>(alloc: Global, words: &'a [String]) -> Result<Option<Asked<'a>>, OutOfMemory>
     ensures { IfOk result (λ c. IsFound (texts words.now) (option_map asked c)) }
 {
-    match words {
-        [command, dieline, margin] => {
-            if !is_same(command.as_str(), "flat") || !is_name(dieline.as_str()) {
-                return Ok(None);
-            }
-            match margin_of(alloc, margin.as_str())? {
-                Some(margin) => Ok(Some(Asked::Flat {
-                    dieline: dieline.as_str(),
-                    margin,
-                })),
-                None => Ok(None),
-            }
-        }
-        _ => Ok(None),
+    if let Some(flat) = flat_in(alloc, words)? {
+        return Ok(Some(flat));
+    }
+    Ok(None)
+}
+
+/// The files that a command reads, in the order of reading.
+pub fn wanted_by<'a>(alloc: Global, command: Asked<'a>) -> Result<Vec<Wanted<'a>>, OutOfMemory>
+    ensures { IfOk result (λ wanted. map named wanted.items ≡ files_of (asked command.entry)) }
+{
+    match command {
+        Asked::Flat { dieline, .. } => Ok(vec![in alloc;
+            Wanted {
+                kind: FileKind::Dieline,
+                name: dieline,
+            },
+        ]?),
     }
 }

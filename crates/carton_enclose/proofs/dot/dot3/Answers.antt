@@ -1,11 +1,11 @@
 use Rattle.std.proofs.Common.{◌≡◌, ℤ, pos, ◌+ℤ◌, ◌*ℤ◌, arith, List, [], ◌∷◌, get_or, to_z, of_z, SFits, subst}
 use Rattle.std.specs.Int.{w8}
 use Rattle.std.proofs.lemmas.Int.{ints, to_z-of_z}
-use Rattle.carton_enclose.specs.Points.{AreSigns, along}
+use Rattle.carton_enclose.specs.Points.{AreSigns, dot}
 use Rattle.carton_enclose.proofs.dot.dot3.Goals as goal
 
 parts : (v : List ℤ) (x y z : ℤ) → AreSigns v
-    → to_z w8 (of_z w8 (get_or v 0 (pos 0))) *ℤ x +ℤ to_z w8 (of_z w8 (get_or v 1 (pos 0))) *ℤ y +ℤ to_z w8 (of_z w8 (get_or v 2 (pos 0))) *ℤ z ≡ along v x y z
+    → to_z w8 (of_z w8 (get_or v 0 (pos 0))) *ℤ x +ℤ to_z w8 (of_z w8 (get_or v 1 (pos 0))) *ℤ y +ℤ to_z w8 (of_z w8 (get_or v 2 (pos 0))) *ℤ z ≡ dot v x y z
 parts (a ∷ b ∷ c ∷ []) x y z h =
     let p : SFits w8 a = omega (arith, ints, h.0.from, h.0.upto) in
     let q : SFits w8 b = omega (arith, ints, h.1.from, h.1.upto) in

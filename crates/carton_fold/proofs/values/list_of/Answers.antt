@@ -2,7 +2,7 @@ use Rattle.std.proofs.Common.{ap, sym, ◌∙◌, Some, option_map, List, map}
 use Rattle.serde_json.specs.Data.{Data}
 use Rattle.serde_json.specs.View.{view}
 use Rattle.carton_fold.specs.Values.{elements}
-use Rattle.carton_fold.proofs.Entries.{elements-items_of}
+use Rattle.carton_fold.proofs.Lists.{elements-items_of}
 use Rattle.carton_fold.proofs.values.list_of.Goals as goal
 
 pub returns-in-Some : goal.returns-in-Some

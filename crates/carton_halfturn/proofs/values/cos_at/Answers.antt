@@ -1,18 +1,17 @@
-use Rattle.std.proofs.Common.{rules, ◌≡◌, pos, unsigned_abs, SFits}
-use Rattle.std.specs.Int.{w64, w128}
-use Rattle.std.proofs.lemmas.Int.{to_z-of_z}
-use Rattle.carton_model.specs.HalfTurns.{cosine, square_sum}
+use Rattle.std.proofs.Common.{rules, SFits, arith}
+use Rattle.std.specs.Int.{w128}
+use Rattle.std.proofs.lemmas.Int.{ints, to_z-of_z}
+use Rattle.carton_halfturn.specs.Values.{IsCosine}
+use Rattle.carton_halfturn.proofs.Sizes.{some_squares, cosine_value}
 use Rattle.carton_halfturn.proofs.values.cos_at.Goals as goal
 
-pub returns-clause-rounded : goal.returns-clause-rounded
-returns-clause-rounded c =
-    let fold : SFits w64 c.args.fold = c.ranges.fold in
-    let den : SFits w64 c.args.den = c.ranges.den in
-    let f1 : SFits w128 c.ratios_of-ratios.result.cos = search rules in
-    let f2 : SFits w128 c.ratios_of-ratios.result.over = search rules in
-    let f3 : SFits w128 c.rounded.result.lo = search rules in
-    let f4 : SFits w128 c.rounded.result.hi = search rules in
-    let x : c.ratios_of-ratios.result.cos ≡ cosine c.args.fold (unsigned_abs c.args.den) = simp to_z-of_z at c.ratios_of-ratios.ensures.cos in
-    let v : c.ratios_of-ratios.result.over ≡ pos (square_sum c.args.fold (unsigned_abs c.args.den)) = simp to_z-of_z at c.ratios_of-ratios.ensures.over in
-    let r = simp to_z-of_z at c.rounded.ensures.rounded in
-    rw (x, v) at r
+pub fraction-requires-clause-positive : goal.fraction-requires-clause-positive
+fraction-requires-clause-positive c = let p = some_squares c.args.f in omega (arith, ints, p, c.ratios_of-ratios.ensures.over)
+
+pub returns : goal.returns
+returns c =
+    let x : SFits w128 c.ratios_of-ratios.result.cos = search rules in
+    let v : SFits w128 c.ratios_of-ratios.result.over = search rules in
+    let r : IsCosine c.args.f c.fraction.result.lo c.fraction.result.hi = rw (c.ratios_of-ratios.ensures.cos, c.ratios_of-ratios.ensures.over) at (simp to_z-of_z at c.fraction.ensures) in
+    let k = cosine_value c.args.f c.fraction.result.lo c.fraction.result.hi r in
+    record { rounded = r; within = k.within; tight = k.tight }

@@ -1,137 +1,32 @@
-use Rattle.std.proofs.Common.{sym, ◌∙◌, ◌≡◌, pos, ◌+ℤ◌, ◌-ℤ◌, ◌*ℤ◌, unsigned_abs, SFits, arith}
-use Rattle.std.specs.Int.{w64, w128}
+use Rattle.std.proofs.Common.{rules, sym, ◌∙◌, ◌≡◌, ap, pos, ◌+ℤ◌, ◌-ℤ◌, ◌*ℤ◌, unsigned_abs, SFits, arith}
+use Rattle.std.specs.Int.{w128}
 use Rattle.std.proofs.lemmas.Int.{ints, to_z-of_z}
-use Rattle.carton_model.specs.HalfTurns.{half_cosine, half_sine, square_sum}
-use Rattle.carton_halfturn.proofs.Folds.{cosine_is, sine_is, square_sum_is}
-use Rattle.carton_halfturn.proofs.Sizes.{pair_fits, squares_positive, proper}
+use Rattle.carton_model.specs.HalfTurns.{half_cosine, half_sine, cosine, sine, square_sum}
+use Rattle.carton_halfturn.proofs.HalfPairs.{cosine_is, sine_is, square_sum_is}
 use Rattle.carton_halfturn.proofs.values.ratios_of.Goals as goal
 
 pub overflow_sub-result : goal.overflow_sub-result
-overflow_sub-result c =
-    let fold : SFits w64 c.args.fold = c.ranges.fold in
-    let den : SFits w64 c.args.den = c.ranges.den in
-    let k = pair_fits c.half_pair-c.result.c c.half_pair-c.result.s c.half_pair-c.ensures.c_size c.half_pair-c.ensures.s_size in
-    let f1 : SFits w128 c.half_pair-c.result.c = k.first in
-    let f2 : SFits w128 c.half_pair-c.result.s = k.second in
-    let f3 : SFits w128 (c.half_pair-c.result.c *ℤ c.half_pair-c.result.c) = k.cc in
-    let f4 : SFits w128 (c.half_pair-c.result.s *ℤ c.half_pair-c.result.s) = k.ss in
-    let f5 : SFits w128 (c.half_pair-c.result.c *ℤ c.half_pair-c.result.s) = k.cs in
-    let f6 : SFits w128 (c.half_pair-c.result.c *ℤ c.half_pair-c.result.c -ℤ c.half_pair-c.result.s *ℤ c.half_pair-c.result.s) = k.difference in
-    let f7 : SFits w128 (pos 2 *ℤ (c.half_pair-c.result.c *ℤ c.half_pair-c.result.s)) = k.twice in
-    let f8 : SFits w128 (c.half_pair-c.result.c *ℤ c.half_pair-c.result.c +ℤ c.half_pair-c.result.s *ℤ c.half_pair-c.result.s) = k.sum in
-    simp to_z-of_z k.difference
+overflow_sub-result c = omega (arith, ints, c.square-cc.ensures.size, c.square-ss.ensures.size)
 
 pub overflow_mul-result : goal.overflow_mul-result
-overflow_mul-result c =
-    let fold : SFits w64 c.args.fold = c.ranges.fold in
-    let den : SFits w64 c.args.den = c.ranges.den in
-    let k = pair_fits c.half_pair-c.result.c c.half_pair-c.result.s c.half_pair-c.ensures.c_size c.half_pair-c.ensures.s_size in
-    let f1 : SFits w128 c.half_pair-c.result.c = k.first in
-    let f2 : SFits w128 c.half_pair-c.result.s = k.second in
-    let f3 : SFits w128 (c.half_pair-c.result.c *ℤ c.half_pair-c.result.c) = k.cc in
-    let f4 : SFits w128 (c.half_pair-c.result.s *ℤ c.half_pair-c.result.s) = k.ss in
-    let f5 : SFits w128 (c.half_pair-c.result.c *ℤ c.half_pair-c.result.s) = k.cs in
-    let f6 : SFits w128 (c.half_pair-c.result.c *ℤ c.half_pair-c.result.c -ℤ c.half_pair-c.result.s *ℤ c.half_pair-c.result.s) = k.difference in
-    let f7 : SFits w128 (pos 2 *ℤ (c.half_pair-c.result.c *ℤ c.half_pair-c.result.s)) = k.twice in
-    let f8 : SFits w128 (c.half_pair-c.result.c *ℤ c.half_pair-c.result.c +ℤ c.half_pair-c.result.s *ℤ c.half_pair-c.result.s) = k.sum in
-    simp to_z-of_z k.cs
-
-pub overflow_mul-result-2 : goal.overflow_mul-result-2
-overflow_mul-result-2 c =
-    let fold : SFits w64 c.args.fold = c.ranges.fold in
-    let den : SFits w64 c.args.den = c.ranges.den in
-    let k = pair_fits c.half_pair-c.result.c c.half_pair-c.result.s c.half_pair-c.ensures.c_size c.half_pair-c.ensures.s_size in
-    let f1 : SFits w128 c.half_pair-c.result.c = k.first in
-    let f2 : SFits w128 c.half_pair-c.result.s = k.second in
-    let f3 : SFits w128 (c.half_pair-c.result.c *ℤ c.half_pair-c.result.c) = k.cc in
-    let f4 : SFits w128 (c.half_pair-c.result.s *ℤ c.half_pair-c.result.s) = k.ss in
-    let f5 : SFits w128 (c.half_pair-c.result.c *ℤ c.half_pair-c.result.s) = k.cs in
-    let f6 : SFits w128 (c.half_pair-c.result.c *ℤ c.half_pair-c.result.c -ℤ c.half_pair-c.result.s *ℤ c.half_pair-c.result.s) = k.difference in
-    let f7 : SFits w128 (pos 2 *ℤ (c.half_pair-c.result.c *ℤ c.half_pair-c.result.s)) = k.twice in
-    let f8 : SFits w128 (c.half_pair-c.result.c *ℤ c.half_pair-c.result.c +ℤ c.half_pair-c.result.s *ℤ c.half_pair-c.result.s) = k.sum in
-    simp to_z-of_z k.twice
+overflow_mul-result c = omega (arith, ints, c.product.ensures.size)
 
 pub overflow_add-result : goal.overflow_add-result
-overflow_add-result c =
-    let fold : SFits w64 c.args.fold = c.ranges.fold in
-    let den : SFits w64 c.args.den = c.ranges.den in
-    let k = pair_fits c.half_pair-c.result.c c.half_pair-c.result.s c.half_pair-c.ensures.c_size c.half_pair-c.ensures.s_size in
-    let f1 : SFits w128 c.half_pair-c.result.c = k.first in
-    let f2 : SFits w128 c.half_pair-c.result.s = k.second in
-    let f3 : SFits w128 (c.half_pair-c.result.c *ℤ c.half_pair-c.result.c) = k.cc in
-    let f4 : SFits w128 (c.half_pair-c.result.s *ℤ c.half_pair-c.result.s) = k.ss in
-    let f5 : SFits w128 (c.half_pair-c.result.c *ℤ c.half_pair-c.result.s) = k.cs in
-    let f6 : SFits w128 (c.half_pair-c.result.c *ℤ c.half_pair-c.result.c -ℤ c.half_pair-c.result.s *ℤ c.half_pair-c.result.s) = k.difference in
-    let f7 : SFits w128 (pos 2 *ℤ (c.half_pair-c.result.c *ℤ c.half_pair-c.result.s)) = k.twice in
-    let f8 : SFits w128 (c.half_pair-c.result.c *ℤ c.half_pair-c.result.c +ℤ c.half_pair-c.result.s *ℤ c.half_pair-c.result.s) = k.sum in
-    simp to_z-of_z k.sum
+overflow_add-result c = omega (arith, ints, c.square-cc.ensures.size, c.square-ss.ensures.size)
 
-pub returns-clause-cos : goal.returns-clause-cos
-returns-clause-cos c =
-    let fold : SFits w64 c.args.fold = c.ranges.fold in
-    let den : SFits w64 c.args.den = c.ranges.den in
-    let k = pair_fits c.half_pair-c.result.c c.half_pair-c.result.s c.half_pair-c.ensures.c_size c.half_pair-c.ensures.s_size in
-    let f1 : SFits w128 c.half_pair-c.result.c = k.first in
-    let f2 : SFits w128 c.half_pair-c.result.s = k.second in
-    let f3 : SFits w128 (c.half_pair-c.result.c *ℤ c.half_pair-c.result.c) = k.cc in
-    let f4 : SFits w128 (c.half_pair-c.result.s *ℤ c.half_pair-c.result.s) = k.ss in
-    let f5 : SFits w128 (c.half_pair-c.result.c *ℤ c.half_pair-c.result.s) = k.cs in
-    let f6 : SFits w128 (c.half_pair-c.result.c *ℤ c.half_pair-c.result.c -ℤ c.half_pair-c.result.s *ℤ c.half_pair-c.result.s) = k.difference in
-    let f7 : SFits w128 (pos 2 *ℤ (c.half_pair-c.result.c *ℤ c.half_pair-c.result.s)) = k.twice in
-    let f8 : SFits w128 (c.half_pair-c.result.c *ℤ c.half_pair-c.result.c +ℤ c.half_pair-c.result.s *ℤ c.half_pair-c.result.s) = k.sum in
-    let first : c.half_pair-c.result.c ≡ half_cosine c.args.fold (unsigned_abs c.args.den) = simp to_z-of_z at c.half_pair-c.ensures.c in
-    let second : c.half_pair-c.result.s ≡ half_sine c.args.fold (unsigned_abs c.args.den) = simp to_z-of_z at c.half_pair-c.ensures.s in
-    simp to_z-of_z ((λ i. first i *ℤ first i -ℤ second i *ℤ second i) ∙ sym (cosine_is c.args.fold (unsigned_abs c.args.den)))
+pub invariant_of-result : goal.invariant_of-result
+invariant_of-result c = record { cos_size = omega (arith, ints, c.square-cc.ensures.size, c.square-ss.ensures.size); sin_size = omega (arith, ints, c.product.ensures.size); over_size = omega (arith, ints, c.square-cc.ensures.size, c.square-ss.ensures.size) }
 
-pub returns-clause-sin : goal.returns-clause-sin
-returns-clause-sin c =
-    let fold : SFits w64 c.args.fold = c.ranges.fold in
-    let den : SFits w64 c.args.den = c.ranges.den in
-    let k = pair_fits c.half_pair-c.result.c c.half_pair-c.result.s c.half_pair-c.ensures.c_size c.half_pair-c.ensures.s_size in
-    let f1 : SFits w128 c.half_pair-c.result.c = k.first in
-    let f2 : SFits w128 c.half_pair-c.result.s = k.second in
-    let f3 : SFits w128 (c.half_pair-c.result.c *ℤ c.half_pair-c.result.c) = k.cc in
-    let f4 : SFits w128 (c.half_pair-c.result.s *ℤ c.half_pair-c.result.s) = k.ss in
-    let f5 : SFits w128 (c.half_pair-c.result.c *ℤ c.half_pair-c.result.s) = k.cs in
-    let f6 : SFits w128 (c.half_pair-c.result.c *ℤ c.half_pair-c.result.c -ℤ c.half_pair-c.result.s *ℤ c.half_pair-c.result.s) = k.difference in
-    let f7 : SFits w128 (pos 2 *ℤ (c.half_pair-c.result.c *ℤ c.half_pair-c.result.s)) = k.twice in
-    let f8 : SFits w128 (c.half_pair-c.result.c *ℤ c.half_pair-c.result.c +ℤ c.half_pair-c.result.s *ℤ c.half_pair-c.result.s) = k.sum in
-    let first : c.half_pair-c.result.c ≡ half_cosine c.args.fold (unsigned_abs c.args.den) = simp to_z-of_z at c.half_pair-c.ensures.c in
-    let second : c.half_pair-c.result.s ≡ half_sine c.args.fold (unsigned_abs c.args.den) = simp to_z-of_z at c.half_pair-c.ensures.s in
-    simp to_z-of_z ((λ i. pos 2 *ℤ (first i *ℤ second i)) ∙ sym (sine_is c.args.fold (unsigned_abs c.args.den)))
-
-pub returns-clause-over : goal.returns-clause-over
-returns-clause-over c =
-    let fold : SFits w64 c.args.fold = c.ranges.fold in
-    let den : SFits w64 c.args.den = c.ranges.den in
-    let k = pair_fits c.half_pair-c.result.c c.half_pair-c.result.s c.half_pair-c.ensures.c_size c.half_pair-c.ensures.s_size in
-    let f1 : SFits w128 c.half_pair-c.result.c = k.first in
-    let f2 : SFits w128 c.half_pair-c.result.s = k.second in
-    let f3 : SFits w128 (c.half_pair-c.result.c *ℤ c.half_pair-c.result.c) = k.cc in
-    let f4 : SFits w128 (c.half_pair-c.result.s *ℤ c.half_pair-c.result.s) = k.ss in
-    let f5 : SFits w128 (c.half_pair-c.result.c *ℤ c.half_pair-c.result.s) = k.cs in
-    let f6 : SFits w128 (c.half_pair-c.result.c *ℤ c.half_pair-c.result.c -ℤ c.half_pair-c.result.s *ℤ c.half_pair-c.result.s) = k.difference in
-    let f7 : SFits w128 (pos 2 *ℤ (c.half_pair-c.result.c *ℤ c.half_pair-c.result.s)) = k.twice in
-    let f8 : SFits w128 (c.half_pair-c.result.c *ℤ c.half_pair-c.result.c +ℤ c.half_pair-c.result.s *ℤ c.half_pair-c.result.s) = k.sum in
-    let first : c.half_pair-c.result.c ≡ half_cosine c.args.fold (unsigned_abs c.args.den) = simp to_z-of_z at c.half_pair-c.ensures.c in
-    let second : c.half_pair-c.result.s ≡ half_sine c.args.fold (unsigned_abs c.args.den) = simp to_z-of_z at c.half_pair-c.ensures.s in
-    simp to_z-of_z ((λ i. first i *ℤ first i +ℤ second i *ℤ second i) ∙ sym (square_sum_is c.args.fold (unsigned_abs c.args.den)))
-
-pub returns-clause-size : goal.returns-clause-size
-returns-clause-size c =
-    let fold : SFits w64 c.args.fold = c.ranges.fold in
-    let den : SFits w64 c.args.den = c.ranges.den in
-    let k = pair_fits c.half_pair-c.result.c c.half_pair-c.result.s c.half_pair-c.ensures.c_size c.half_pair-c.ensures.s_size in
-    let f1 : SFits w128 c.half_pair-c.result.c = k.first in
-    let f2 : SFits w128 c.half_pair-c.result.s = k.second in
-    let f3 : SFits w128 (c.half_pair-c.result.c *ℤ c.half_pair-c.result.c) = k.cc in
-    let f4 : SFits w128 (c.half_pair-c.result.s *ℤ c.half_pair-c.result.s) = k.ss in
-    let f5 : SFits w128 (c.half_pair-c.result.c *ℤ c.half_pair-c.result.s) = k.cs in
-    let f6 : SFits w128 (c.half_pair-c.result.c *ℤ c.half_pair-c.result.c -ℤ c.half_pair-c.result.s *ℤ c.half_pair-c.result.s) = k.difference in
-    let f7 : SFits w128 (pos 2 *ℤ (c.half_pair-c.result.c *ℤ c.half_pair-c.result.s)) = k.twice in
-    let f8 : SFits w128 (c.half_pair-c.result.c *ℤ c.half_pair-c.result.c +ℤ c.half_pair-c.result.s *ℤ c.half_pair-c.result.s) = k.sum in
-    let first : c.half_pair-c.result.c ≡ half_cosine c.args.fold (unsigned_abs c.args.den) = simp to_z-of_z at c.half_pair-c.ensures.c in
-    let second : c.half_pair-c.result.s ≡ half_sine c.args.fold (unsigned_abs c.args.den) = simp to_z-of_z at c.half_pair-c.ensures.s in
-    let over : c.half_pair-c.result.c *ℤ c.half_pair-c.result.c +ℤ c.half_pair-c.result.s *ℤ c.half_pair-c.result.s ≡ pos (square_sum c.args.fold (unsigned_abs c.args.den)) = (λ i. first i *ℤ first i +ℤ second i *ℤ second i) ∙ sym (square_sum_is c.args.fold (unsigned_abs c.args.den)) in
-    let some = squares_positive c.args.fold (unsigned_abs c.args.den) (omega (arith, ints, c.requires.positive)) c.requires.within in
-    simp to_z-of_z (proper c.half_pair-c.result.c c.half_pair-c.result.s (rw over some) k.fine)
+pub returns : goal.returns
+returns c =
+    let n = c.args.f.num in
+    let d = unsigned_abs c.args.f.den in
+    let c1 : SFits w128 c.half_pair-c.result.c = search rules in
+    let s1 : SFits w128 c.half_pair-c.result.s = search rules in
+    let cc : c.square-cc.result ≡ half_cosine n d *ℤ half_cosine n d = (simp to_z-of_z at c.square-cc.ensures.value) ∙ ap (λ z. z *ℤ z) c.half_pair-c.ensures.c in
+    let ss : c.square-ss.result ≡ half_sine n d *ℤ half_sine n d = (simp to_z-of_z at c.square-ss.ensures.value) ∙ ap (λ z. z *ℤ z) c.half_pair-c.ensures.s in
+    let cs : c.product.result ≡ half_cosine n d *ℤ half_sine n d = (simp to_z-of_z at c.product.ensures.value) ∙ (λ i. c.half_pair-c.ensures.c i *ℤ c.half_pair-c.ensures.s i) in
+    let cos : c.square-cc.result -ℤ c.square-ss.result ≡ cosine n d = (λ i. cc i -ℤ ss i) ∙ sym (cosine_is n d) in
+    let sin : pos 2 *ℤ c.product.result ≡ sine n d = ap (λ z. pos 2 *ℤ z) cs ∙ sym (sine_is n d) in
+    let over : c.square-cc.result +ℤ c.square-ss.result ≡ pos (square_sum n d) = (λ i. cc i +ℤ ss i) ∙ sym (square_sum_is n d) in
+    record { cos = omega (arith, ints, cos); sin = omega (arith, ints, sin); over = omega (arith, ints, over) }

@@ -1,4 +1,4 @@
-use Rattle.carton_panels.proofs.Loops.{at_yes, same_test}
+use Rattle.carton_base.proofs.Loops.{at_yes, same_test}
 use Rattle.carton_panels.proofs.creases.is_common.Goals as goal
 
 pub returns-then-joins_at : goal.returns-then-joins_at

@@ -12,7 +12,7 @@ loop-j-preserved c =
     record {
       gathered = e.gathered;
       grows = λ k h. e.grows k (i.grows k h);
-      row = row_more c.args.margin c.args.places.now c.loop-j.found.items c.add_pair.new.found.items c.args.i c.loop-j.j e.grows i.row e.covers;
+      row = row_more c.args.face.margin c.args.face.places.now c.loop-j.found.items c.add_pair.new.found.items c.args.i c.loop-j.j e.grows i.row e.covers;
     }
 
 pub returns : goal.returns

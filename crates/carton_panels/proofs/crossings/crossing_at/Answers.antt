@@ -8,8 +8,8 @@ use Rattle.carton_panels.proofs.crossings.crossing_at.Goals as goal
 
 pub returns : goal.returns
 returns c = λ d.
-    let s = c.inset_at-first.result in
-    let t = c.inset_at-second.result in
+    let s = c.line-first.result in
+    let t = c.line-second.result in
     let sa : SFits w128 s.a = search rules in
     let sb : SFits w128 s.b = search rules in
     let se : SFits w128 s.e = search rules in
@@ -27,4 +27,4 @@ returns c = λ d.
     let p1 = subst (λ n. IsPointOf n c.determinant-y.result c.determinant-w.result r) x p0 in
     let p2 = subst (λ n. IsPointOf (s.e *ℤ t.b -ℤ t.e *ℤ s.b) n c.determinant-w.result r) y p1 in
     let p3 = subst (λ n. IsPointOf (s.e *ℤ t.b -ℤ t.e *ℤ s.b) (t.e *ℤ s.a -ℤ s.e *ℤ t.a) n r) w p2 in
-    crossing_from_lines c.args.margin (get_or (sides_of c.args.places.now) c.args.i d) (get_or (sides_of c.args.places.now) c.args.j d) r s.a s.b s.e t.a t.b t.e (c.inset_at-first.ensures d) (c.inset_at-second.ensures d) p3
+    crossing_from_lines c.args.face.margin (get_or (sides_of c.args.face.places.now) c.args.i d) (get_or (sides_of c.args.face.places.now) c.args.j d) r s.a s.b s.e t.a t.b t.e (c.line-first.ensures d) (c.line-second.ensures d) p3

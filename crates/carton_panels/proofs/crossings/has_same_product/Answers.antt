@@ -1,8 +1,8 @@
 use Rattle.std.proofs.Common.{rules, ◌≡◌, ◌∙◌, ap, sym, SFits, ◌*ℤ◌}
 use Rattle.std.specs.Int.{w128, w64}
 use Rattle.std.proofs.lemmas.Int.{to_z-of_z}
-use Rattle.carton_panels.proofs.Sizes.{Decides-same_bits}
-use Rattle.carton_panels.proofs.Loops.{same_test}
+use Rattle.carton_base.proofs.Tests.{Decides-same_bits}
+use Rattle.carton_base.proofs.Loops.{same_test}
 use Rattle.carton_panels.proofs.crossings.has_same_product.Goals as goal
 
 pub returns : goal.returns

@@ -1,6 +1,6 @@
 use Rattle.carton_base.specs.declared.numbers.Triple.{Triple}
 use Rattle.carton_panels.specs.Shrinking.{IsSamePoint}
-use Rattle.carton_panels.proofs.Loops.{yes, no, at_yes, at_no, none_more, any_at, none_any}
+use Rattle.carton_base.proofs.Loops.{yes, no, at_yes, at_no, none_more, any_at, none_any}
 use Rattle.carton_panels.proofs.crossings.is_found.Goals as goal
 
 pub returns-then-is_same_point : goal.returns-then-is_same_point

@@ -1,7 +1,7 @@
 use Rattle.std.proofs.Common.{rules, ◌≡◌, IsTrue, ◌↔◌, SFits, ◌*ℤ◌}
 use Rattle.std.specs.Int.{w64}
 use Rattle.std.proofs.lemmas.Int.{to_z-of_z}
-use Rattle.carton_panels.proofs.Loops.{at_yes, same_test}
+use Rattle.carton_base.proofs.Loops.{at_yes, same_test}
 use Rattle.carton_panels.proofs.crossings.is_same_point.Goals as goal
 
 pub returns-then-has_same_product : goal.returns-then-has_same_product

@@ -1,5 +1,5 @@
 use Rattle.std.proofs.Common.{◌+◌}
-use Rattle.carton_tool.specs.Pairs.{IsJudgedSoFar}
+use Rattle.carton_tool.specs.FlatPairs.{IsJudgedSoFar}
 use Rattle.carton_tool.proofs.flat.judge.Given as goal
 
 abbrev pub invariant-loop-a : goal.invariant-loop-a

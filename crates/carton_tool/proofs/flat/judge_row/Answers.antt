@@ -1,6 +1,7 @@
 use Rattle.std.proofs.Common.{◌≡◌, arith, true, false}
 use Rattle.carton_tool.proofs.Judged.{skip, add}
-use Rattle.carton_tool.proofs.Making.{shape_at, panels_parted, shapes_parted}
+use Rattle.carton_panels.proofs.DielinePanels.{shape_at}
+use Rattle.carton_tool.proofs.Parted.{panels_parted, shapes_parted}
 use Rattle.carton_tool.proofs.flat.judge_row.Goals as goal
 
 pub loop-b-preserved-then-share_crease : goal.loop-b-preserved-then-share_crease

@@ -1,4 +1,4 @@
-use Rattle.carton_tool.specs.Pairs.{IsJudgedSoFar}
+use Rattle.carton_tool.specs.FlatPairs.{IsJudgedSoFar}
 use Rattle.carton_tool.proofs.flat.judge_row.Given as goal
 
 abbrev pub invariant-loop-b : goal.invariant-loop-b

@@ -1,0 +1,29 @@
+-- The words are one command at most.
+use Rattle.std.proofs.Common.{◌≡◌, ℕ, List, [], ◌∷◌, arith, sym, ap, ◌∙◌, Option, Some, None}
+use Rattle.std.specs.Prelude.{codes, if◌then◌else◌}
+use Rattle.std.specs.Str.{bytes_eq}
+use Rattle.std.specs.Str.Parse.{digits_value}
+use Rattle.std.proofs.lemmas.Fmt.{decimal_is_IsNumeral}
+use Rattle.carton_tool.specs.Words.{Command, flat, spelled, AreBounded, IsCommand}
+
+-- the command of the name `flat` with these further words
+abbrev flat_of : List (List ℕ) → Option Command
+flat_of [] = None
+flat_of (dieline ∷ []) = None
+flat_of (dieline ∷ margin ∷ []) = Some (flat dieline (digits_value 10 margin))
+flat_of (dieline ∷ margin ∷ more ∷ others) = None
+
+-- the command that words spell, if any
+abbrev command_in : List (List ℕ) → Option Command
+command_in [] = None
+command_in (word ∷ others) = if bytes_eq word (codes "flat") then flat_of others else None
+
+-- a command is found in its own words
+found : (c : Command) → AreBounded c → command_in (spelled c) ≡ Some c
+found (flat dieline margin) few = ap (λ n. Some (flat dieline n)) (decimal_is_IsNumeral margin (omega (arith, few))).1
+
+some_is : (c c' : Command) → Some c ≡ Some c' → c ≡ c'
+some_is c c' e = cc
+
+pub one_command : (words : List (List ℕ)) (c c' : Command) → IsCommand words c → IsCommand words c' → c ≡ c'
+one_command words c c' is is' = some_is c c' (sym (found c is.2) ∙ ap command_in (sym is.0 ∙ is'.0) ∙ found c' is'.2)
