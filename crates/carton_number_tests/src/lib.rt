@@ -7,3 +7,5 @@ mod arithmetic;
 mod half_turns;
 #[cfg(test)]
 mod moving_folds;
+#[cfg(test)]
+mod placing;

@@ -1,0 +1,534 @@
+ghost use Rattle.std.specs.Prelude.{◌≡◌, ℕ, ◌*◌, ◌<◌, ◌≤◌, ◌^◌, length, All, IfSome, replicate, set, pos, ◌≤ℤ◌, unsigned_abs};
+ghost use Rattle.carton_base.specs.Grid.{IsGrid};
+ghost use Rattle.carton_base.specs.declared.limits.TheConstants.{FARTHEST, LONGEST_PATH, MOST_JOINTS};
+ghost use Rattle.carton_model.specs.Moves.{IsMotion};
+ghost use Rattle.carton_model.specs.Points.{IsNearPoint};
+ghost use Rattle.carton_model.specs.Turning.{IsTurn};
+
+use carton_base::{FARTHEST, LONGEST_PATH, MOST_JOINTS, Motion, Piece, State, Triple, Turn};
+use carton_fix::Fix;
+use carton_place::place;
+
+// A joint of a path: its place, past the joints where it is locked, whether it is upright, its line
+// and its sign.
+struct Joint {
+    place: u8,
+    upright: bool,
+    at: i32,
+    sign: i8,
+}
+
+fn place_of(joint: &Joint) -> Option<u8>
+    ensures { IfSome result (λ k. k < MOST_JOINTS) }
+{
+    if (joint.place as usize) < MOST_JOINTS {
+        Some(joint.place)
+    } else {
+        None
+    }
+}
+
+fn turn_of(joint: &Joint) -> Option<Turn>
+    ensures { IfSome result IsTurn }
+{
+    if joint.at.unsigned_abs() > FARTHEST {
+        return None;
+    }
+    if joint.sign.unsigned_abs() != 1 {
+        return None;
+    }
+    Some(Turn {
+        place: place_of(joint),
+        upright: joint.upright,
+        at: joint.at,
+        sign: joint.sign,
+    })
+}
+
+// The turns of a path, in the first places.
+fn turns_of(joints: &[Joint]) -> Option<[Turn; LONGEST_PATH]>
+    ensures length { IfSome result (λ turns. length turns ≡ LONGEST_PATH) }
+    ensures turns { IfSome result (All IsTurn) }
+{
+    if joints.len() > LONGEST_PATH {
+        return None;
+    }
+    let none = Turn {
+        place: None,
+        upright: true,
+        at: 0,
+        sign: 1,
+    };
+    let mut turns = [none; LONGEST_PATH];
+    for i in 0..joints.len() {
+        turns[i] = turn_of(&joints[i])?;
+    }
+    Some(turns)
+}
+
+// The second joint at one stop, and all others at another.
+fn stops_at(first: i8, second: i8) -> [i8; MOST_JOINTS]
+    ensures { result ≡ set (replicate MOST_JOINTS first) 1 second }
+{
+    let mut stops = [first; MOST_JOINTS];
+    stops[1] = second;
+    stops
+}
+
+// The move that takes the second joint, and all others, from one stop to another on the grid.
+fn motion_of(grid: u8, from: i8, to: i8, second_from: i8, second_to: i8) -> Option<Motion>
+    ensures { IfSome result (IsMotion MOST_JOINTS) }
+{
+    if grid != 8 && grid != 16 {
+        return None;
+    }
+    let most = 2 * grid;
+    if from.unsigned_abs() > most || second_from.unsigned_abs() > most {
+        return None;
+    }
+    if to.unsigned_abs() > most || second_to.unsigned_abs() > most {
+        return None;
+    }
+    if to.abs_diff(from) > 4 || second_to.abs_diff(second_from) > 4 {
+        return None;
+    }
+    Some(Motion {
+        from: State {
+            stops: stops_at(from, second_from),
+            grid,
+        },
+        to: State {
+            stops: stops_at(to, second_to),
+            grid,
+        },
+    })
+}
+
+// The point (x/w, y/w), where it is a near one.
+fn corner_of(x: i64, y: i64, w: i64) -> Option<Triple>
+    ensures near { IfSome result IsNearPoint }
+    ensures fine { IfSome result (λ t. t.w ≤ℤ pos (2 ^ 45)) }
+{
+    if w < 1 || w > 1000 {
+        return None;
+    }
+    let most = FARTHEST as u64 * w.unsigned_abs();
+    if x.unsigned_abs() > most || y.unsigned_abs() > most {
+        return None;
+    }
+    Some(Triple { x, y, w })
+}
+
+// A path of so many joints of the list, past so many of them; the stops of the second joint and of all
+// others before and after; then how wide each bound may be, and the least and the greatest x, y and z
+// over the piece, by sixteenths of it, each rounded outward.
+struct Row {
+    skip: usize,
+    count: usize,
+    from: (i8, i8),
+    to: (i8, i8),
+    grid: u8,
+    corner: (i64, i64, i64),
+    widest: i128,
+    parts: [(i128, i128); 3],
+}
+
+fn is_within(part: Fix, want: (i128, i128), widest: i128) -> bool {
+    part.lo <= want.0
+        && want.1 <= part.hi
+        && part.hi.checked_sub(part.lo).is_some_and(|w| w <= widest)
+}
+
+// The bounds are as the row says; None where the row isn't one.
+fn stands(row: &Row, piece: Piece) -> Option<bool> {
+    let joints = JOINTS.get(row.skip..)?.get(..row.count)?;
+    let turns = turns_of(joints)?;
+    let motion = motion_of(row.grid, row.from.0, row.to.0, row.from.1, row.to.1)?;
+    let corner = corner_of(row.corner.0, row.corner.1, row.corner.2)?;
+    let p = place::<Fix>(turns.get(..joints.len())?, corner, &motion, piece);
+    let [x, y, z] = row.parts;
+    Some(
+        is_within(p.x, x, row.widest)
+            && is_within(p.y, y, row.widest)
+            && is_within(p.z, z, row.widest),
+    )
+}
+
+fn passes(row: &Row, piece: Piece) -> bool {
+    stands(row, piece) == Some(true)
+}
+
+const JOINTS: [Joint; 9] = [
+    Joint {
+        place: 1,
+        upright: true,
+        at: 100,
+        sign: 1,
+    },
+    Joint {
+        place: 1,
+        upright: true,
+        at: 100,
+        sign: -1,
+    },
+    Joint {
+        place: 0,
+        upright: false,
+        at: 50,
+        sign: -1,
+    },
+    Joint {
+        place: 24,
+        upright: true,
+        at: -30,
+        sign: 1,
+    },
+    Joint {
+        place: 1,
+        upright: false,
+        at: 200,
+        sign: 1,
+    },
+    Joint {
+        place: 2,
+        upright: true,
+        at: 300,
+        sign: -1,
+    },
+    Joint {
+        place: 3,
+        upright: false,
+        at: -150,
+        sign: 1,
+    },
+    Joint {
+        place: 4,
+        upright: true,
+        at: 4000,
+        sign: -1,
+    },
+    Joint {
+        place: 5,
+        upright: false,
+        at: 8191,
+        sign: 1,
+    },
+];
+
+const WHOLE: [Row; 10] = [
+    Row {
+        skip: 0,
+        count: 1,
+        from: (0, 4),
+        to: (0, 4),
+        grid: 8,
+        corner: (200, 0, 1),
+        widest: 206,
+        parts: [
+            (175921860444160, 175921860444160),
+            (0, 0),
+            (87960930222080, 87960930222080),
+        ],
+    },
+    Row {
+        skip: 1,
+        count: 1,
+        from: (0, -4),
+        to: (0, -4),
+        grid: 8,
+        corner: (0, 0, 1),
+        widest: 206,
+        parts: [
+            (43980465111040, 43980465111040),
+            (0, 0),
+            (-87960930222080, -87960930222080),
+        ],
+    },
+    Row {
+        skip: 2,
+        count: 1,
+        from: (5, 0),
+        to: (5, 0),
+        grid: 16,
+        corner: (401, 99, 3),
+        widest: 40,
+        parts: [
+            (146968054246058, 146968054246059),
+            (39609808569311, 39609808569312),
+            (10642959528650, 10642959528651),
+        ],
+    },
+    Row {
+        skip: 0,
+        count: 1,
+        from: (0, 6),
+        to: (0, 10),
+        grid: 8,
+        corner: (200, 30, 1),
+        widest: 61572651155661,
+        parts: [
+            (79164837199872, 140737488355328),
+            (32985348833280, 32985348833280),
+            (105553116266496, 109951162777600),
+        ],
+    },
+    Row {
+        skip: 1,
+        count: 1,
+        from: (0, -6),
+        to: (0, -10),
+        grid: 8,
+        corner: (20, 30, 1),
+        widest: 49258120924530,
+        parts: [
+            (85322102315417, 134580223239783),
+            (32985348833280, 32985348833280),
+            (-87960930222080, -84442493013196),
+        ],
+    },
+    Row {
+        skip: 2,
+        count: 1,
+        from: (-2, 0),
+        to: (2, 0),
+        grid: 8,
+        corner: (401, 99, 2),
+        widest: 517417236607,
+        parts: [
+            (220452081369088, 220452081369088),
+            (54425825574912, 54490502729488),
+            (-258708618301, 258708618301),
+        ],
+    },
+    Row {
+        skip: 1,
+        count: 2,
+        from: (14, 1),
+        to: (18, -3),
+        grid: 16,
+        corner: (20, -30, 1),
+        widest: 66169884778606,
+        parts: [
+            (21990232555520, 27964937249850),
+            (35068711323178, 54154762130160),
+            (87727824308529, 91412394339995),
+        ],
+    },
+    Row {
+        skip: 2,
+        count: 3,
+        from: (-1, 6),
+        to: (-1, 10),
+        grid: 8,
+        corner: (120, 40, 1),
+        widest: 98435047144572,
+        parts: [
+            (131941395333120, 131941395333120),
+            (173337162340711, 271663949878194),
+            (-175583549174076, -167802389962121),
+        ],
+    },
+    Row {
+        skip: 1,
+        count: 8,
+        from: (0, -10),
+        to: (4, -6),
+        grid: 8,
+        corner: (8191, -8191, 1),
+        widest: 84900899276665210,
+        parts: [
+            (-2380970439716373, 11724800255804427),
+            (2914344836424183, 11001873436419661),
+            (2957303444601615, 9024201917673318),
+        ],
+    },
+    Row {
+        skip: 1,
+        count: 8,
+        from: (29, -18),
+        to: (32, -14),
+        grid: 16,
+        corner: (1, 2, 3),
+        widest: 5284092264555273,
+        parts: [
+            (8052163336280076, 8232846524823150),
+            (17571061087958743, 18654916400609004),
+            (-4577179330548192, 124122569439701),
+        ],
+    },
+];
+
+#[test]
+fn over_whole_moves(rt: HostRuntime) {
+    for row in WHOLE.iter() {
+        assert!(rt; passes(row, Piece::whole()));
+    }
+}
+
+const EIGHTH: [Row; 5] = [
+    Row {
+        skip: 0,
+        count: 1,
+        from: (0, 6),
+        to: (0, 10),
+        grid: 8,
+        corner: (200, 30, 1),
+        widest: 7509037518473,
+        parts: [
+            (117037412353703, 124546449871972),
+            (32985348833280, 32985348833280),
+            (108978143637975, 109722574081597),
+        ],
+    },
+    Row {
+        skip: 1,
+        count: 2,
+        from: (-18, -2),
+        to: (-14, 2),
+        grid: 16,
+        corner: (20, -30, 1),
+        widest: 8343332348222,
+        parts: [
+            (22161863638880, 22674753413280),
+            (63256716312911, 71574144849251),
+            (-87742305942848, -87072191603221),
+        ],
+    },
+    Row {
+        skip: 2,
+        count: 3,
+        from: (-2, 10),
+        to: (2, 6),
+        grid: 8,
+        corner: (120, 40, 1),
+        widest: 13368842734568,
+        parts: [
+            (131941395333120, 131941395333120),
+            (232601005760801, 245892415250840),
+            (-175382497855614, -173670443850320),
+        ],
+    },
+    Row {
+        skip: 1,
+        count: 8,
+        from: (12, 3),
+        to: (16, 7),
+        grid: 8,
+        corner: (-8191, 8191, 1),
+        widest: 12745324676652687,
+        parts: [
+            (6583142914114240, 6975078876482562),
+            (22173866334727318, 23895163459003341),
+            (-18438826527715198, -16941102758543856),
+        ],
+    },
+    Row {
+        skip: 1,
+        count: 8,
+        from: (3, 0),
+        to: (3, 0),
+        grid: 16,
+        corner: (7001, -5, 7),
+        widest: 34575,
+        parts: [
+            (1216023518350808, 1216023518350809),
+            (314245140295596, 314245140295597),
+            (-2260321339765155, -2260321339765154),
+        ],
+    },
+];
+
+#[test]
+fn over_an_eighth_of_a_move(rt: HostRuntime) {
+    for row in EIGHTH.iter() {
+        assert!(rt; passes(row, Piece { index: 2, depth: 3 }));
+    }
+}
+
+const FINEST: [Row; 5] = [
+    Row {
+        skip: 0,
+        count: 1,
+        from: (0, 6),
+        to: (0, 10),
+        grid: 8,
+        corner: (200, 30, 1),
+        widest: 1188,
+        parts: [
+            (79164837199872, 79164837200856),
+            (32985348833280, 32985348833280),
+            (105553116266496, 105553116266783),
+        ],
+    },
+    Row {
+        skip: 1,
+        count: 2,
+        from: (-18, -2),
+        to: (-14, 2),
+        grid: 16,
+        corner: (20, -30, 1),
+        widest: 1344,
+        parts: [
+            (24696722716044, 24696722716200),
+            (21839040350747, 21839040351701),
+            (-84308366067399, -84308366067180),
+        ],
+    },
+    Row {
+        skip: 2,
+        count: 3,
+        from: (4, 10),
+        to: (4, 6),
+        grid: 8,
+        corner: (120, 40, 1),
+        widest: 2228,
+        parts: [
+            (131941395333120, 131941395333120),
+            (163431408352624, 163431408354136),
+            (-162199955330042, -162199955329515),
+        ],
+    },
+    Row {
+        skip: 1,
+        count: 8,
+        from: (12, 3),
+        to: (16, 7),
+        grid: 8,
+        corner: (-8191, 8191, 1),
+        widest: 864573,
+        parts: [
+            (7036241955251176, 7036241955325644),
+            (26307278839781552, 26307278839833872),
+            (-10234764334612399, -10234764334470259),
+        ],
+    },
+    Row {
+        skip: 1,
+        count: 8,
+        from: (-2, 15),
+        to: (2, 17),
+        grid: 16,
+        corner: (8191, -5, 1),
+        widest: 356458,
+        parts: [
+            (-560733369481360, -560733369465753),
+            (8571968186359488, 8571968186398913),
+            (1927928567485836, 1927928567556581),
+        ],
+    },
+];
+
+#[test]
+fn over_the_finest_piece(rt: HostRuntime) {
+    for row in FINEST.iter() {
+        assert!(rt;
+            passes(
+                row,
+                Piece {
+                    index: 68719476735,
+                    depth: 36
+                }
+            )
+        );
+    }
+}

@@ -1,0 +1,4 @@
+pub mod Dependence
+pub mod Held
+pub mod Sizes
+pub mod Swings
