@@ -1,0 +1,16 @@
+pub mod Chains
+pub mod FirstEdges
+pub mod Merging
+pub mod Reaching
+pub mod Gathering
+pub mod Ways
+pub mod Tying
+pub mod Climbing
+pub mod Returning
+pub mod Starting
+pub mod Walking
+pub mod Placing
+pub mod Meeting
+pub mod Keeping
+pub mod Deciding
+pub mod Answering

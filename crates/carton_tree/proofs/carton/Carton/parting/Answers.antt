@@ -1,0 +1,47 @@
+use Rattle.std.proofs.Common.{◌≡◌, List, Option, Some, None, sym, ◌∙◌, ap, subst}
+use Rattle.std.specs.Prelude.{Contains}
+use Rattle.carton_base.specs.declared.ids.PanelId.{PanelId}
+use Rattle.carton_tree.specs.Trees.{Tree, path, first_shared, number_or, parting}
+use Rattle.carton_tree.specs.Cartons.{IsCarton}
+use Rattle.carton_tree.proofs.Meeting.{shared_in, not_unshared, root_on}
+use Rattle.carton_tree.proofs.carton.Carton.parting.Goals as goal
+
+pub returns-in-Some-clause-parting : goal.returns-in-Some-clause-parting
+unfolding parting
+returns-in-Some-clause-parting c =
+    let t : Tree = c.args.self.now in
+    let told : first_shared (path t.joints c.args.a.0) (path t.joints c.args.b.0) ≡ Some c.in-Some.p = cc in
+    sym (ap (number_or t.root) told)
+
+pub returns-in-Some-clause-above_a : goal.returns-in-Some-clause-above_a
+returns-in-Some-clause-above_a c =
+    let t : Tree = c.args.self.now in
+    let told : first_shared (path t.joints c.args.a.0) (path t.joints c.args.b.0) ≡ Some c.in-Some.p = cc in
+    (shared_in (path t.joints c.args.a.0) (path t.joints c.args.b.0) c.in-Some.p told).0
+
+pub returns-in-Some-clause-above_b : goal.returns-in-Some-clause-above_b
+returns-in-Some-clause-above_b c =
+    let t : Tree = c.args.self.now in
+    let told : first_shared (path t.joints c.args.a.0) (path t.joints c.args.b.0) ≡ Some c.in-Some.p = cc in
+    (shared_in (path t.joints c.args.a.0) (path t.joints c.args.b.0) c.in-Some.p told).1
+
+pub returns-in-None-clause-parting : goal.returns-in-None-clause-parting
+unfolding parting
+returns-in-None-clause-parting c =
+    let t : Tree = c.args.self.now in
+    let told : first_shared (path t.joints c.args.a.0) (path t.joints c.args.b.0) ≡ None = cc in
+    ap (λ (x : Tree). x.root) c.self.view_is ∙ sym (ap (number_or t.root) told)
+
+pub returns-in-None-clause-above_a : goal.returns-in-None-clause-above_a
+returns-in-None-clause-above_a c =
+    let t : Tree = c.args.self.now in
+    let carton : IsCarton t = subst IsCarton c.self.view_is c.self.invariant.0 in
+    let root : PanelId = record { 0 = t.root } in
+    subst (λ (x : PanelId). Contains (path t.joints c.args.a.0) x) (ap (λ n. record { 0 = n }) (sym (ap (λ (x : Tree). x.root) c.self.view_is))) (root_on t c.args.a.0 carton c.requires.a)
+
+pub returns-in-None-clause-above_b : goal.returns-in-None-clause-above_b
+returns-in-None-clause-above_b c =
+    let t : Tree = c.args.self.now in
+    let carton : IsCarton t = subst IsCarton c.self.view_is c.self.invariant.0 in
+    let root : PanelId = record { 0 = t.root } in
+    subst (λ (x : PanelId). Contains (path t.joints c.args.b.0) x) (ap (λ n. record { 0 = n }) (sym (ap (λ (x : Tree). x.root) c.self.view_is))) (root_on t c.args.b.0 carton c.requires.b)

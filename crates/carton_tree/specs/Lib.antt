@@ -1,0 +1,7 @@
+pub mod Joints
+pub mod Chains
+pub mod Trees
+pub mod Cartons
+pub mod Rules
+pub mod Steps
+pub mod Answers
