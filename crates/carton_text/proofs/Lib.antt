@@ -1,0 +1,11 @@
+pub mod Items
+pub mod Lines
+pub mod Naming
+pub mod Digits
+pub mod Kept
+pub mod KeptJobs
+pub mod Finding
+pub mod Apart
+pub mod Placed
+pub mod Ranged
+pub mod KeptTasks

@@ -1,0 +1,9 @@
+pub mod Numbers
+pub mod Lines
+pub mod Grids
+pub mod JobLines
+pub mod Jobs
+pub mod JobRules
+pub mod Tasks
+pub mod TaskRules
+pub mod CartonTasks

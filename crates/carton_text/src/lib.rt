@@ -1,0 +1,30 @@
+//! The texts of jobs: their grammar, which other texts of lines share, and the task that a job gives.
+#![tactic(auto)]
+
+mod carton_task;
+mod course;
+mod courses;
+mod cutting;
+mod decimals;
+mod draft;
+mod fault;
+mod fitting;
+mod grid;
+mod job;
+mod job_error;
+mod job_line;
+mod job_text;
+mod strangers;
+mod task;
+mod teams;
+mod telling;
+
+pub use carton_task::job_for;
+pub use cutting::{after, is_passed_over, words};
+pub use decimals::{Numeral, number_at, number_of, numbers};
+pub use fault::{Fault, LineError};
+pub use fitting::fitted;
+pub use job::{Job, Setting, TeamLine};
+pub use job_error::JobError;
+pub use job_text::read_job;
+pub use task::{Task, Team};
