@@ -32,12 +32,12 @@ fn with_next(found: Beside, panel: PanelId) -> Beside
 fn has_edge(edges: &[EdgeId], edge: EdgeId) -> bool
     ensures { IsTrue result ↔ Contains edges.now edge }
 {
+    // All are looked at, since a loop with no way out is the faster one.
+    let mut found = false;
     for e in edges {
-        if e.0 == edge.0 {
-            return true;
-        }
+        found = found | (e.0 == edge.0);
     }
-    false
+    found
 }
 
 // The panels whose sides have the edge among them.

@@ -18,6 +18,10 @@ use std::alloc::Global;
 fn is_between(edge: Ends, p: u16, q: u16) -> bool
     ensures { IsTrue result ↔ HasEnds edge p q }
 {
+    // The sum of the ends sorts out most edges, whichever way they go.
+    if edge.p as u32 + edge.q as u32 != p as u32 + q as u32 {
+        return false;
+    }
     (edge.p == p && edge.q == q) || (edge.p == q && edge.q == p)
 }
 
