@@ -1,4 +1,4 @@
-ghost use Rattle.carton_panels.specs.Insets.{IsSmall};
+ghost use Rattle.carton_model.specs.Points.{IsSmall};
 
 use crate::dielines::{answer, crease, dieline};
 use carton_base::{EdgeId, Letter, PanelId, Triple};
