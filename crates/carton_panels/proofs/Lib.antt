@@ -11,6 +11,7 @@ pub mod Keeping
 pub mod Repeats
 pub mod Crossed
 pub mod Bends
+pub mod NearCorners
 pub mod Making
 pub mod Parted
 pub mod DielinePanels

@@ -1,7 +1,7 @@
-ghost use Rattle.std.specs.Prelude.{◌≡◌, ◌<◌, ◌≤◌, length, IsTrue, ◌↔◌};
+ghost use Rattle.std.specs.Prelude.{◌≡◌, ◌<◌, ◌≤◌, length, All, IsTrue, ◌↔◌, pos};
 ghost use Rattle.carton_base.specs.declared.limits.TheConstants.{WIDEST_MARGIN};
 ghost use Rattle.carton_model.specs.Dielines.{IsDieline};
-ghost use Rattle.carton_model.specs.Points.{IsSmall};
+ghost use Rattle.carton_model.specs.Points.{IsNearPoint, IsSmall};
 ghost use Rattle.carton_panels.specs.Panels.{InPanel, places_of, face_at};
 ghost use Rattle.carton_panels.specs.Shrinking.{InShrunk};
 ghost use Rattle.carton_panels.specs.Shapes.{IsShape};
@@ -50,7 +50,9 @@ impl PanelShape {
 
     /// The corners in the face's order, with w = 1.
     pub fn corners(&self) -> &[Triple]
-        ensures { result.now ≡ self.now.corners }
+        ensures corners { result.now ≡ self.now.corners }
+        ensures whole { All (λ t. t.w ≡ pos 1) result.now }
+        ensures near { All IsNearPoint result.now }
     {
         self.corners.as_slice()
     }

@@ -1,7 +1,8 @@
-mod Numbers
-mod About
-mod Steps
-mod Ramps
-mod Lists
-mod Starts
-mod Dependence
+pub mod Numbers
+pub mod About
+pub mod Steps
+pub mod Ramps
+pub mod Lists
+pub mod Starts
+pub mod Dependence
+pub mod Still

@@ -21,4 +21,4 @@ pub use carton::Carton;
 pub use error::TreeError;
 pub use joint::Joint;
 pub use route::Route;
-pub use start::Start;
+pub use start::{Start, start_of};

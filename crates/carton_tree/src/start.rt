@@ -9,7 +9,7 @@ pub struct Start {
     pub y: Bounds,
 }
 
-// Where the flat point stands.
+/// Where the flat point stands.
 pub fn start_of(point: Triple) -> Start
     ensures { IsStart point result }
 {
