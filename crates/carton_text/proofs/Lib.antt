@@ -9,3 +9,16 @@ pub mod Apart
 pub mod Placed
 pub mod Ranged
 pub mod KeptTasks
+pub mod Pieces
+pub mod Thousandths
+pub mod Still
+pub mod StrictLines
+pub mod Lower
+pub mod PlanStops
+pub mod Rising
+pub mod Numerals
+pub mod SpelledLines
+pub mod PlanEntries
+pub mod PlansRead
+pub mod PlansWritten
+pub mod OneSpelling

@@ -28,7 +28,7 @@ is_done step a n lines total e so_far =
     let one : read_lines step a n lines ≡ Ok a = rw e refl in
     sym so_far ∙ one
 
-told_well : {A : Type 0} (n : ℕ) (r : Result A Fault) (x : A) → told_at n r ≡ Ok x → r ≡ Ok x
+pub told_well : {A : Type 0} (n : ℕ) (r : Result A Fault) (x : A) → told_at n r ≡ Ok x → r ≡ Ok x
 told_well n (Ok y) x h = cc
 told_well n (Err fault) x h = cc
 

@@ -7,3 +7,8 @@ pub mod JobRules
 pub mod Tasks
 pub mod TaskRules
 pub mod CartonTasks
+pub mod Poses
+pub mod StrictLines
+pub mod PlainPlans
+pub mod PlanRules
+pub mod Plans

@@ -1,5 +1,5 @@
 -- Numbers as a text writes them: decimal, of any number of digits.
-use Rattle.std.specs.Prelude.{ℕ, ℤ, pos, negsuc, neg_ℤ, unsigned_abs, List, [], ◌∷◌, nat_eq, nat_le, not, ◌&&◌, bytes_eq, drop, Bool, false, if◌then◌else◌, Option, Some, None, ok_or, Result, Ok, Err, codes}
+use Rattle.std.specs.Prelude.{ℕ, ℤ, pos, negsuc, neg_ℤ, unsigned_abs, List, [], ◌∷◌, nat_eq, nat_le, not, ◌&&◌, ◌||◌, bytes_eq, drop, Bool, false, if◌then◌else◌, Option, Some, None, ok_or, Result, Ok, Err, codes}
 use Rattle.std.specs.Char.{is_ascii_digit}
 use Rattle.std.specs.List.{list_all}
 use Rattle.std.specs.Str.Parse.{digits_value, starts_with_minus}
@@ -11,6 +11,14 @@ use Rattle.carton_base.specs.Steps.{entries_from}
 abbrev pub is_positive : List ℕ → Bool
 is_positive [] = false
 is_positive (d ∷ ds) = not (nat_eq d 48) && list_all is_ascii_digit (d ∷ ds)
+
+-- 0, or decimal digits, the first of which is not 0
+abbrev pub is_natural : List ℕ → Bool
+is_natural ds = bytes_eq ds (codes "0") || is_positive ds
+
+-- a number's digits, after a minus where it is negative
+abbrev pub is_written : Bool → List ℕ → Bool
+is_written negative ds = if negative then is_positive ds else is_natural ds
 
 -- the number that a word writes: 0, or digits of which the first is not 0, or such digits after a minus
 unfoldable pub number : List ℕ → Option ℤ

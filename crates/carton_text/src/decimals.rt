@@ -1,9 +1,9 @@
-ghost use Rattle.std.specs.Prelude.{◌≡◌, ◌+◌, ◌-◌, ◌*◌, ◌^◌, ◌<◌, ◌≤◌, min, length, map, true, unsigned_abs};
+ghost use Rattle.std.specs.Prelude.{◌≡◌, ◌+◌, ◌-◌, ◌*◌, ◌^◌, ◌<◌, ◌≤◌, min, length, map, true, unsigned_abs, nat_lt, int_lt};
 ghost use Rattle.std.specs.Char.{is_ascii_digit};
 ghost use Rattle.std.specs.List.{list_all};
 ghost use Rattle.std.specs.Str.Parse.{digits_value};
 ghost use Rattle.carton_text.specs.Lines.{Gives};
-ghost use Rattle.carton_text.specs.Numbers.{is_positive as is_positive_in, number, number_in, numbers_in, from_to as from_to_in, at_most as at_most_in};
+ghost use Rattle.carton_text.specs.Numbers.{is_positive as is_positive_in, is_natural, number, number_in, numbers_in, from_to as from_to_in, at_most as at_most_in};
 
 use crate::fault::Fault;
 use std::alloc::Global;
@@ -18,15 +18,14 @@ pub struct Numeral<'a> {
 
 impl<'a> Model for Numeral<'a> {
     ghost use Rattle.std.specs.Prelude.{◌≡◌, ℤ, pos, neg_ℤ, if◌then◌else◌, true};
-    ghost use Rattle.std.specs.Char.{is_ascii_digit};
-    ghost use Rattle.std.specs.List.{list_all};
     ghost use Rattle.std.specs.Str.Parse.{digits_value};
+    ghost use Rattle.carton_text.specs.Numbers.{is_written};
 
     ghost Value = { ℤ };
 
     ghost view = { λ n. if n.negative then neg_ℤ (pos (digits_value 10 n.digits.now)) else pos (digits_value 10 n.digits.now) };
 
-    ghost invariant = { λ n. list_all is_ascii_digit n.digits.now ≡ true };
+    ghost invariant = { λ n. is_written n.negative n.digits.now ≡ true };
 }
 
 fn are_digits(word: &[u8]) -> bool
@@ -87,12 +86,36 @@ fn size_of(digits: &[u8]) -> u64
     size
 }
 
+// Whether the first digits write a lesser number than the second.
+fn is_lower(first: &[u8], second: &[u8]) -> bool
+    requires first { is_natural first.now ≡ true }
+    requires second { is_natural second.now ≡ true }
+    ensures { result ≡ nat_lt (digits_value 10 first.now) (digits_value 10 second.now) }
+{
+    if first.len() != second.len() {
+        return first.len() < second.len();
+    }
+    first < second
+}
+
 impl<'a> Numeral<'a> {
     // The number without its sign, or 2^64 - 1 where it is greater.
     fn size(&self) -> u64
         ensures { result ≡ min (unsigned_abs self.now) (2 ^ 64 - 1) }
     {
         size_of(self.digits)
+    }
+
+    /// Whether the number is less than the other.
+    pub fn is_less(&self, other: &Numeral<'_>) -> bool
+        ensures { result ≡ int_lt self.now other.now }
+    {
+        match (self.negative, other.negative) {
+            (false, false) => is_lower(self.digits, other.digits),
+            (false, true) => false,
+            (true, false) => true,
+            (true, true) => is_lower(other.digits, self.digits),
+        }
     }
 
     /// The number where it lies from `low` to `high`, and else a fault of range.

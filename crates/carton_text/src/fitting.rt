@@ -25,8 +25,8 @@ fn stop_at(stops: &[i8], place: usize) -> i8
     }
 }
 
-// The stops of a state: these, and 0 in the places past them.
-fn all_stops(stops: &[i8]) -> [i8; MOST_JOINTS]
+/// The stops of a state: these, and 0 in the places past them.
+pub fn all_stops(stops: &[i8]) -> [i8; MOST_JOINTS]
     ensures { result ≡ all_stops_in stops.now }
 {
     let mut all = [0; MOST_JOINTS];

@@ -80,7 +80,8 @@ fn setting(grid: Grid, numbers: &[Numeral<'_>]) -> Result<Setting, Fault>
     })
 }
 
-fn edges(alloc: Global, numbers: &[Numeral<'_>]) -> Result<Vec<EdgeId>, Fault>
+/// The edges of numbers.
+pub fn edges(alloc: Global, numbers: &[Numeral<'_>]) -> Result<Vec<EdgeId>, Fault>
     ensures { Gives (λ v. v.items) result (entries_from (λ i. edge_in) 0 numbers.now) }
 {
     let mut found = Vec::new(alloc);

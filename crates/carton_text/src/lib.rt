@@ -1,4 +1,5 @@
-//! The texts of jobs: their grammar, which other texts of lines share, and the task that a job gives.
+//! The texts of jobs, of plans and of poses: the grammar of lines that they share, and the task that a
+//! job gives.
 #![tactic(auto)]
 
 mod carton_task;
@@ -14,7 +15,15 @@ mod job;
 mod job_error;
 mod job_line;
 mod job_text;
+mod plan;
+mod plan_draft;
+mod plan_lines;
+mod plan_text;
+mod plan_writing;
+mod pose;
+mod spot;
 mod strangers;
+mod strict_lines;
 mod task;
 mod teams;
 mod telling;
@@ -27,4 +36,8 @@ pub use fitting::fitted;
 pub use job::{Job, Setting, TeamLine};
 pub use job_error::JobError;
 pub use job_text::read_job;
+pub use plan::Plan;
+pub use plan_text::read_plan;
+pub use plan_writing::write_plan;
+pub use pose::pose_text;
 pub use task::{Task, Team};
