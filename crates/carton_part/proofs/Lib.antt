@@ -1,0 +1,15 @@
+pub mod Alike
+pub mod Closed
+pub mod Corners
+pub mod Finer
+pub mod Less
+pub mod Linear
+pub mod Looked
+pub mod Means
+pub mod Positive
+pub mod Returning
+pub mod Seen
+pub mod Still
+pub mod Upward
+pub mod Walks
+pub mod Ways

@@ -1,0 +1,10 @@
+pub mod Frames
+pub mod Points
+pub mod Parted
+pub mod Laws
+pub mod Answers
+pub mod Closing
+pub mod Looks
+pub mod Meeting
+pub mod Walks
+pub mod Beginnings

@@ -1,0 +1,9 @@
+pub mod Numbers
+pub mod Directions
+pub mod Lists
+pub mod Reached
+pub mod Parted
+pub mod Positions
+pub mod Routes
+pub mod Sizes
+pub mod Starts

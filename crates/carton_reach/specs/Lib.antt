@@ -1,0 +1,6 @@
+pub mod Axes
+pub mod Beyond
+pub mod Corners
+pub mod Reaches
+pub mod Spots
+pub mod Starts
