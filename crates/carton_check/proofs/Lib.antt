@@ -1,0 +1,4 @@
+pub mod Compared
+pub mod Moves
+pub mod Judged
+pub mod Implied
