@@ -1,0 +1,5 @@
+//! Grid steps and estimates, as tests.
+#![tactic(auto)]
+
+#[cfg(test)]
+mod steps;
