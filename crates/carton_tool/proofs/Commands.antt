@@ -1,10 +1,12 @@
 -- The words are one command at most.
-use Rattle.std.proofs.Common.{◌≡◌, ℕ, List, [], ◌∷◌, arith, sym, ap, ◌∙◌, Option, Some, None}
+use Rattle.std.proofs.Common.{◌≡◌, ℕ, List, [], ◌∷◌, arith, refl, sym, ap, ◌∙◌, Option, Some, None}
 use Rattle.std.specs.Prelude.{codes, if◌then◌else◌}
 use Rattle.std.specs.Str.{bytes_eq}
 use Rattle.std.specs.Str.Parse.{digits_value}
 use Rattle.std.proofs.lemmas.Fmt.{decimal_is_IsNumeral}
-use Rattle.carton_tool.specs.Words.{Command, flat, spelled, AreBounded, IsCommand}
+use Rattle.carton_tool.specs.Words.{Command, flat, pose, check, end_word, spelled, AreBounded, IsCommand}
+use Rattle.carton_tool.specs.declared.end.End.{End}
+use Rattle.carton_tool.specs.declared.end.End.TheVariants.{Start, Target}
 
 -- the command of the name `flat` with these further words
 abbrev flat_of : List (List ℕ) → Option Command
@@ -13,14 +15,36 @@ flat_of (dieline ∷ []) = None
 flat_of (dieline ∷ margin ∷ []) = Some (flat dieline (digits_value 10 margin))
 flat_of (dieline ∷ margin ∷ more ∷ others) = None
 
+-- the command of the name `pose`
+abbrev pose_of : List (List ℕ) → Option Command
+pose_of [] = None
+pose_of (dieline ∷ []) = None
+pose_of (dieline ∷ job ∷ []) = None
+pose_of (dieline ∷ job ∷ end ∷ []) = Some (pose dieline job (if bytes_eq end (codes "start") then Start else Target))
+pose_of (dieline ∷ job ∷ end ∷ more ∷ others) = None
+
+-- the command of the name `check`
+abbrev check_of : List (List ℕ) → Option Command
+check_of [] = None
+check_of (dieline ∷ []) = None
+check_of (dieline ∷ job ∷ []) = None
+check_of (dieline ∷ job ∷ plan ∷ []) = Some (check dieline job plan)
+check_of (dieline ∷ job ∷ plan ∷ more ∷ others) = None
+
 -- the command that words spell, if any
 abbrev command_in : List (List ℕ) → Option Command
 command_in [] = None
-command_in (word ∷ others) = if bytes_eq word (codes "flat") then flat_of others else None
+command_in (word ∷ others) =
+    if bytes_eq word (codes "flat") then flat_of others else (
+    if bytes_eq word (codes "pose") then pose_of others else (
+    if bytes_eq word (codes "check") then check_of others else None))
 
 -- a command is found in its own words
 found : (c : Command) → AreBounded c → command_in (spelled c) ≡ Some c
 found (flat dieline margin) few = ap (λ n. Some (flat dieline n)) (decimal_is_IsNumeral margin (omega (arith, few))).1
+found (pose dieline job Start) few = refl
+found (pose dieline job Target) few = refl
+found (check dieline job plan) few = refl
 
 some_is : (c c' : Command) → Some c ≡ Some c' → c ≡ c'
 some_is c c' e = cc

@@ -18,7 +18,7 @@ use Rattle.carton_tool.specs.declared.flat.FlatAnswer.TheVariants.{Clear, Blocke
 use Rattle.carton_tool.specs.Flat.{IsFirstRefused, AreJudged, IsBefore, IsAllPairs, IsVerdict, IsFlatOf, IsFlat}
 use Rattle.carton_panels.specs.DielinePanels.{panel_places, IsPanel, ArePanels}
 use Rattle.carton_tool.specs.Refusals.{AfterDieline}
-use Rattle.carton_tool.proofs.Ordered.{one_length}
+use Rattle.carton_tool.proofs.Ordered.{IsStrict, one_list}
 
 -- a face isn't both a panel and refused
 refused_is_none : (m : ℕ) (panel : PanelId) (ps : List Point) (e : PanelError) → IsPanelAnswer panel m ps (Err e) → ¬ (e ≡ Memory) → IsPanel m ps → ⊥
@@ -44,14 +44,14 @@ one_refusal m panel ps (NotConvex a) Memory h k u v = absurd (v refl)
 one_refusal m panel ps (TooThin a) Memory h k u v = absurd (v refl)
 
 -- where all faces before a are panels, none of them is refused
-not_refused : (m : ℕ) (d : RawDieline) (n : ℕ) (panel : PanelId) (e : PanelError) → ArePanels m d n → panel.0 < n → IsPanelAnswer panel m (panel_places d panel.0) (Err e) → ¬ (e ≡ Memory) → ⊥
+pub not_refused : (m : ℕ) (d : RawDieline) (n : ℕ) (panel : PanelId) (e : PanelError) → ArePanels m d n → panel.0 < n → IsPanelAnswer panel m (panel_places d panel.0) (Err e) → ¬ (e ≡ Memory) → ⊥
 not_refused m d n panel e all lt h wanted = refused_is_none m panel (panel_places d panel.0) e h wanted (all panel.0 lt)
 
-same_panel : (a b : PanelId) → a.0 ≡ b.0 → a ≡ b
+pub same_panel : (a b : PanelId) → a.0 ≡ b.0 → a ≡ b
 same_panel a b e = λ i. record { 0 = e i }
 
 -- two pairs are one, or one is before the other
-pair_cases : (a b c d : ℕ) → ((a ≡ c) × (b ≡ d)) ⊎ (IsBefore (a, b) (c, d) ⊎ IsBefore (c, d) (a, b))
+pub pair_cases : (a b c d : ℕ) → ((a ≡ c) × (b ≡ d)) ⊎ (IsBefore (a, b) (c, d) ⊎ IsBefore (c, d) (a, b))
 pair_cases a b c d = elim (cases_lt a c) [
   | inl lt ↦ inr (inl (inl lt))
   | inr le ↦ elim (cases_lt c a) [
@@ -66,14 +66,21 @@ pair_cases a b c d = elim (cases_lt a c) [
   ]
 ]
 
+-- no two pairs are before each other
+not_both : IsStrict IsBefore
+not_both p q h k = elim h [
+  | inl a ↦ elim k [ inl b ↦ omega (arith, a, b) | inr b ↦ omega (arith, a, b.0) ]
+  | inr a ↦ elim k [ inl b ↦ omega (arith, a.0, b) | inr b ↦ omega (arith, a.1, b.1) ]
+]
+
 -- the number of pairs is one
 one_count : (d : RawDieline) (ps qs : List (ℕ × ℕ)) → IsAllPairs d ps → IsAllPairs d qs → length ps ≡ length qs
-one_count d ps qs h k = one_length ps qs h.ordered k.ordered
+one_count d ps qs h k = ap (λ (l : List (ℕ × ℕ)). length l) (one_list IsBefore ps qs not_both h.ordered k.ordered
     (λ p has. k.whole p.0 p.1 (subst (λ q. AreJudged d q.0 q.1) has.2 (h.judged has.0 p has.1)))
-    (λ p has. h.whole p.0 p.1 (subst (λ q. AreJudged d q.0 q.1) has.2 (k.judged has.0 p has.1)))
+    (λ p has. h.whole p.0 p.1 (subst (λ q. AreJudged d q.0 q.1) has.2 (k.judged has.0 p has.1))))
 
 -- the first face that is no panel is refused by one rule
-one_first_refused : (m : ℕ) (d : RawDieline) (e f : PanelError) → IsFirstRefused m d e → IsFirstRefused m d f → e ≡ f
+pub one_first_refused : (m : ℕ) (d : RawDieline) (e f : PanelError) → IsFirstRefused m d e → IsFirstRefused m d f → e ≡ f
 one_first_refused m d e f h k = elim (cases_lt h.0.0 k.0.0) [
   | inl lt ↦ absurd (not_refused m d k.0.0 h.0 e k.2 lt h.3 h.4)
   | inr le ↦ elim (cases_lt k.0.0 h.0.0) [

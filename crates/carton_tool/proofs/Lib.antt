@@ -3,5 +3,14 @@ pub mod Parted
 pub mod Ordered
 pub mod Commands
 pub mod Reaching
+pub mod SettingUp
+pub mod Planning
+pub mod Owning
 pub mod FlatDetermined
 pub mod OneAnswer
+pub mod TreeDetermined
+pub mod TaskDetermined
+pub mod SetupDetermined
+pub mod PoseDetermined
+pub mod CheckDetermined
+pub mod CheckSound

@@ -5,15 +5,22 @@ use Rattle.carton_tool.specs.declared.files.FileKind.{FileKind}
 use Rattle.carton_tool.specs.declared.refusal.BadFile.{BadFile}
 use Rattle.carton_tool.specs.declared.refusal.Rule.TheVariants.{TooLong}
 use Rattle.carton_tool.specs.declared.answer.Answer.{Answer}
-use Rattle.carton_tool.specs.declared.answer.Answer.TheVariants.{BadWords, Bad, Flat}
+use Rattle.carton_tool.specs.declared.answer.Answer.TheVariants.{BadWords, Bad, Flat, Pose, Check}
 use Rattle.carton_tool.specs.declared.flat.FlatAnswer.TheVariants.{Clear, Blocked}
+use Rattle.carton_tool.specs.declared.check.CheckAnswer.{CheckAnswer}
 use Rattle.carton_tool.specs.declared.status.Status.TheVariants.{BadInput}
-use Rattle.carton_tool.specs.Words.{Command, flat, IsCommand, files_of}
+use Rattle.carton_tool.specs.Words.{Command, flat, pose, check, IsCommand, files_of}
 use Rattle.carton_tool.specs.Files.{first_long, file_at}
 use Rattle.carton_tool.specs.Flat.{IsFlat}
+use Rattle.carton_tool.specs.Pose.{IsPoseOutcome}
+use Rattle.carton_tool.specs.Check.{IsCheck, status_of_checked}
+use Rattle.carton_check.specs.declared.checked.Checked.{Checked}
+use Rattle.carton_check.specs.declared.checked.Checked.TheVariants.{WrongCreases, WrongStart, WrongEnd, NotOneStop, Holds, Blocked as BlockedMove}
 use Rattle.carton_tool.specs.Answers.{text_of, status_of, answer_of, IsOwn, IsAnswerTo, IsFunction, IsAnswerOf, IsAnswer, IsDetermined}
 use Rattle.carton_tool.proofs.Commands.{one_command}
 use Rattle.carton_tool.proofs.FlatDetermined.{one_flat}
+use Rattle.carton_tool.proofs.PoseDetermined.{one_pose_refusal}
+use Rattle.carton_tool.proofs.CheckDetermined.{one_check_refusal}
 
 -- an outcome that is one gives one answer
 one_own : {A : Type 0} → (own : A → Answer) (P : Result A BadFile → Type 0) → ((a b : Result A BadFile) → P a → P b → a ≡ b) → (x y : Answer) → IsOwn own P x → IsOwn own P y → x ≡ y
@@ -28,10 +35,23 @@ one_refused own P no_own one file y (Err bad, p, is) k = is ∙ ap (answer_of ow
 -- the answer of a command whose answer is a function is one
 one_answer_to : (c : Command) (files : List (List ℕ)) (a b : Answer) → IsFunction c → IsAnswerTo c files a → IsAnswerTo c files b → a ≡ b
 one_answer_to (flat dieline margin) files a b is h k = one_own Flat (IsFlat margin (file_at 0 files)) (one_flat margin (file_at 0 files)) a b h k
+one_answer_to (pose dieline job end) files a b is h k = absurd is
+one_answer_to (check dieline job plan) files a b is h k = absurd is
 
 -- where a file is refused, no other answer is allowed
 one_refusal_to : (c : Command) (files : List (List ℕ)) (file : BadFile) (b : Answer) → IsAnswerTo c files (Bad file) → IsAnswerTo c files b → Bad file ≡ b
 one_refusal_to (flat dieline margin) files file b h k = one_refused Flat (IsFlat margin (file_at 0 files)) (λ a bad e. absurd (cc)) (λ bad r p q. one_flat margin (file_at 0 files) (Err bad) r p q) file b h k
+one_refusal_to (pose dieline job end) files file b h k = one_refused Pose (IsPoseOutcome end (file_at 0 files) (file_at 1 files)) (λ a bad e. absurd (cc)) (one_pose_refusal end (file_at 0 files) (file_at 1 files)) file b h k
+one_refusal_to (check dieline job plan) files file b h k = one_refused Check (IsCheck (file_at 0 files) (file_at 1 files) (file_at 2 files)) (λ a bad e. absurd (cc)) (one_check_refusal (file_at 0 files) (file_at 1 files) (file_at 2 files)) file b h k
+
+-- what is told of a plan is never that of bad input
+not_bad_input : (checked : Checked) → status_of_checked checked ≡ BadInput → ⊥
+not_bad_input WrongCreases e = cc
+not_bad_input WrongStart e = cc
+not_bad_input WrongEnd e = cc
+not_bad_input (NotOneStop i) e = cc
+not_bad_input (BlockedMove i a b m) e = cc
+not_bad_input (Holds moves) e = cc
 
 -- the status of bad input is that of a file that is refused alone
 refused : (a : Answer) → status_of a ≡ BadInput → (file : BadFile) × (a ≡ Bad file)
@@ -39,6 +59,8 @@ refused BadWords e = absurd (cc)
 refused (Bad file) e = (file, refl)
 refused (Flat (Clear pairs)) e = absurd (cc)
 refused (Flat (Blocked p q)) e = absurd (cc)
+refused (Pose answer) e = absurd (cc)
+refused (Check answer) e = absurd (not_bad_input answer.checked e)
 
 -- one answer for the bytes of a command's files
 one_answer_of : (c : Command) (files : List (List ℕ)) (a b : Answer) → IsFunction c ⊎ (status_of a ≡ BadInput) → IsAnswerOf c files a → IsAnswerOf c files b → a ≡ b

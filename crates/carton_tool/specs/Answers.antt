@@ -1,14 +1,16 @@
 -- Which text and status answer the words and the bytes of the files that they name.
-use Rattle.std.specs.Prelude.{◌≡◌, ◌⊎◌, ⊤, ℕ, List, length, codes, Option, MatchOption, Result, Ok, Err}
-use Rattle.carton_tool.specs.Words.{Command, flat, IsCommand, IsNoCommand, files_of}
+use Rattle.std.specs.Prelude.{◌≡◌, ◌⊎◌, ⊤, ℕ, List, length, codes, Option, Some, MatchOption, Result, Ok, Err}
+use Rattle.carton_tool.specs.Words.{Command, flat, pose, check, IsCommand, IsNoCommand, files_of}
 use Rattle.carton_tool.specs.Files.{AreTold, IsAsHad, IsReached, first_long, file_at}
 use Rattle.carton_tool.specs.Lines.{line}
 use Rattle.carton_tool.specs.Refusals.{refusal_text}
 use Rattle.carton_tool.specs.Flat.{IsFlat, flat_text, flat_status}
+use Rattle.carton_tool.specs.Pose.{IsPoseOutcome, pose_text, pose_status}
+use Rattle.carton_tool.specs.Check.{IsCheck, AreSound, check_text, check_status}
 use Rattle.carton_tool.specs.declared.refusal.Rule.TheVariants.{TooLong}
 use Rattle.carton_tool.specs.declared.refusal.BadFile.{BadFile}
 use Rattle.carton_tool.specs.declared.answer.Answer.{Answer}
-use Rattle.carton_tool.specs.declared.answer.Answer.TheVariants.{BadWords, Bad, Flat}
+use Rattle.carton_tool.specs.declared.answer.Answer.TheVariants.{BadWords, Bad, Flat, Pose, Check}
 use Rattle.carton_tool.specs.declared.status.Status.{Status}
 use Rattle.carton_tool.specs.declared.status.Status.TheVariants.{BadInput, BadWords as NoWords}
 
@@ -17,12 +19,16 @@ abbrev pub text_of : Answer → List ℕ
 text_of BadWords = line (codes "bad words")
 text_of (Bad file) = refusal_text file
 text_of (Flat answer) = flat_text answer
+text_of (Pose answer) = pose_text answer
+text_of (Check answer) = check_text answer
 
 -- the status that goes with it
 abbrev pub status_of : Answer → Status
 status_of BadWords = NoWords
 status_of (Bad file) = BadInput
 status_of (Flat answer) = flat_status answer
+status_of (Pose answer) = pose_status answer
+status_of (Check answer) = check_status answer
 
 -- the answer that a command's outcome is: one of its own, or that a file is bad
 abbrev pub answer_of : {A : Type 0} → (A → Answer) → Result A BadFile → Answer
@@ -36,10 +42,14 @@ IsOwn {A} own P answer = (outcome : Result A BadFile) × P outcome × (answer �
 -- the answer of a command for the bytes of its files, none of which is too long
 abbrev pub IsAnswerTo : Command → List (List ℕ) → Answer → Type 0
 IsAnswerTo (flat dieline margin) files = IsOwn Flat (IsFlat margin (file_at 0 files))
+IsAnswerTo (pose dieline job end) files = IsOwn Pose (IsPoseOutcome end (file_at 0 files) (file_at 1 files))
+IsAnswerTo (check dieline job plan) files = IsOwn Check (IsCheck (file_at 0 files) (file_at 1 files) (file_at 2 files))
 
 -- commands whose answer is a function of the bytes of their files
 abbrev pub IsFunction : Command → Type 0
 IsFunction (flat dieline margin) = ⊤
+IsFunction (pose dieline job end) = ⊥
+IsFunction (check dieline job plan) = ⊥
 
 -- the answer of a command for the bytes of its files: the first that is too long is told before any is looked at
 abbrev pub IsAnswerOf : Command → List (List ℕ) → Answer → Type 0
@@ -71,3 +81,8 @@ IsAnswered holds had words status grew = (files : List (List ℕ)) × AreFiles h
 -- the name is that of a file that the words name, before which none is told to be too long
 abbrev pub IsNamed : (List ℕ → Option (List ℕ)) → List (List ℕ) → Option (List ℕ) → Type 0
 IsNamed holds words name = (c : Command) × IsCommand words c × IsReached holds (files_of c) name
+
+-- if the words are a check, the bytes that are told of its three files are those of a carton, of a task on it, and of a plan that is sound for them
+abbrev pub IsCheckOfSound : (List ℕ → Option (List ℕ)) → List (List ℕ) → Type 0
+IsCheckOfSound holds words = (dieline job plan d j p : List ℕ) → IsCommand words (check dieline job plan)
+    → holds dieline ≡ Some d → holds job ≡ Some j → holds plan ≡ Some p → AreSound d j p

@@ -3,7 +3,10 @@ pub mod Files
 pub mod Words
 pub mod Asked
 pub mod Refusals
+pub mod Setups
 pub mod Flat
+pub mod Pose
+pub mod Check
 pub mod FlatPairs
 pub mod Answers
 pub mod Reading

@@ -1,16 +1,25 @@
 -- Files that are refused, the text of each refusal, and what a command gives in place of an answer.
-use Rattle.std.specs.Prelude.{◌≡◌, ⊤, ℕ, List, ◌++◌, codes, Result, Ok, Err}
+use Rattle.std.specs.Prelude.{◌≡◌, ◌≢◌, ⊤, ℕ, List, ◌++◌, codes, Result, Ok, Err}
 use Rattle.carton_base.specs.declared.dieline.RawDieline.{RawDieline}
 use Rattle.carton_fold.specs.Values.{name_of}
 use Rattle.carton_fold.specs.declared.error.FoldError.{FoldError}
 use Rattle.carton_fold.specs.declared.error.FoldError.TheVariants.{NotJson, NotObject, Missing, BadShape, TooMany, NotWhole, TooFar, NotFlat, BadVertex, BadLetter, JoinEdge, Memory}
 use Rattle.carton_panels.specs.declared.error.PanelError.{PanelError}
 use Rattle.carton_panels.specs.declared.error.PanelError.TheVariants.{RepeatedVertex, NotConvex, TooThin, Memory as NoMemoryForPanel}
+use Rattle.carton_text.specs.declared.fault.LineError.{LineError}
+use Rattle.carton_text.specs.declared.fault.LineError.TheVariants.{BadLine, Range, Duplicate, NoEnd, Memory as NoMemoryForLine}
+use Rattle.carton_text.specs.declared.job.Job.{Job}
+use Rattle.carton_text.specs.declared.job_error.JobError.{JobError}
+use Rattle.carton_text.specs.declared.job_error.JobError.TheVariants.{NotAJoint, LockedEdge, NoAngles, AngleNotExact, EmptyTeam, TooManyTeams, Memory as NoMemoryForTask}
+use Rattle.carton_text.specs.declared.plan.Plan.{Plan}
+use Rattle.carton_text.specs.PlainPlans.{PlainPlan, plain}
+use Rattle.carton_tree.specs.declared.error.TreeError.{TreeError}
+use Rattle.carton_tree.specs.declared.error.TreeError.TheVariants.{Panel as NoPanel, SideNoEdge, ThreeFaces, SameSide, Slanted, Loop, NoRoot, Apart, TooDeep, Memory as NoMemoryForTree}
 use Rattle.carton_tool.specs.Files.{kind_text}
 use Rattle.carton_tool.specs.Lines.{line, spaced}
-use Rattle.carton_tool.specs.declared.files.FileKind.TheVariants.{Dieline}
+use Rattle.carton_tool.specs.declared.files.FileKind.TheVariants.{Dieline, Job as JobFile, Plan as PlanFile}
 use Rattle.carton_tool.specs.declared.refusal.Rule.{Rule}
-use Rattle.carton_tool.specs.declared.refusal.Rule.TheVariants.{TooLong, Fold, Panel}
+use Rattle.carton_tool.specs.declared.refusal.Rule.TheVariants.{TooLong, Fold, Panel, Tree, Line, Fit}
 use Rattle.carton_tool.specs.declared.refusal.BadFile.{BadFile}
 use Rattle.carton_tool.specs.declared.refusal.Refusal.{Refusal}
 use Rattle.carton_tool.specs.declared.refusal.Refusal.TheVariants.{Bad, NoMemory}
@@ -37,11 +46,45 @@ panel_text (NotConvex panel) = codes "not convex panel" ++ spaced panel.0
 panel_text (TooThin panel) = codes "too thin panel" ++ spaced panel.0
 panel_text NoMemoryForPanel = codes "out of memory"
 
+-- why the panels of a dieline are no carton; want of memory is never printed
+abbrev pub tree_text : TreeError → List ℕ
+tree_text (NoPanel e) = panel_text e
+tree_text (SideNoEdge panel side) = codes "no edge panel" ++ spaced panel.0 ++ (codes " side" ++ spaced side)
+tree_text (ThreeFaces edge) = codes "three panels edge" ++ spaced edge.0
+tree_text (SameSide edge) = codes "same side edge" ++ spaced edge.0
+tree_text (Slanted edge) = codes "slanted edge" ++ spaced edge.0
+tree_text (Loop edge) = codes "loop edge" ++ spaced edge.0
+tree_text (NoRoot root) = codes "no root" ++ spaced root
+tree_text (Apart panel) = codes "apart panel" ++ spaced panel.0
+tree_text (TooDeep panel) = codes "too deep panel" ++ spaced panel.0
+tree_text NoMemoryForTree = codes "out of memory"
+
+-- the first fault of a text of lines; want of memory is never printed
+abbrev pub line_text : LineError → List ℕ
+line_text (BadLine number) = codes "bad line" ++ spaced number
+line_text (Range number) = codes "range line" ++ spaced number
+line_text (Duplicate number) = codes "duplicate line" ++ spaced number
+line_text NoEnd = codes "no end"
+line_text NoMemoryForLine = codes "out of memory"
+
+-- why a job doesn't fit a carton; want of memory is never printed
+abbrev pub fit_text : JobError → List ℕ
+fit_text (NotAJoint edge) = codes "not a joint edge" ++ spaced edge.0
+fit_text (LockedEdge edge) = codes "locked edge" ++ spaced edge.0
+fit_text NoAngles = codes "no angles"
+fit_text (AngleNotExact edge) = codes "angle not exact edge" ++ spaced edge.0
+fit_text (EmptyTeam number) = codes "empty team line" ++ spaced number
+fit_text (TooManyTeams count) = codes "too many teams" ++ spaced count
+fit_text NoMemoryForTask = codes "out of memory"
+
 -- the rule that a file breaks
 abbrev pub rule_text : Rule → List ℕ
 rule_text TooLong = codes "too long"
 rule_text (Fold e) = fold_text e
 rule_text (Panel e) = panel_text e
+rule_text (Tree e) = tree_text e
+rule_text (Line e) = line_text e
+rule_text (Fit e) = fit_text e
 
 -- what is printed of a file that is refused
 abbrev pub refusal_text : BadFile → List ℕ
@@ -53,7 +96,19 @@ IsOutcome P (Ok answer) = P (Ok answer)
 IsOutcome P (Err (Bad bad)) = P (Err bad)
 IsOutcome P (Err NoMemory) = ⊤
 
--- the outcome of a command that reads a dieline: the refusal of its text, or what P says of the dieline
+-- the outcome of a command that first needs a value: the refusal of a file where a rule fails, want of memory apart, or what P says of the value
+abbrev pub After : {X E A : Type 0} → E → (E → BadFile) → Result X E → (X → Result A BadFile → Type 0) → Result A BadFile → Type 0
+After memory bad (Ok x) P outcome = P x outcome
+After memory bad (Err e) P outcome = (outcome ≡ Err (bad e)) × (e ≢ memory)
+
+-- a command that needs the dieline of a text
 abbrev pub AfterDieline : {A : Type 0} → Result RawDieline FoldError → (RawDieline → Result A BadFile → Type 0) → Result A BadFile → Type 0
-AfterDieline (Ok d) P outcome = P d outcome
-AfterDieline (Err e) P outcome = (outcome ≡ Err (record { kind = Dieline; rule = Fold e })) × ¬ (e ≡ Memory)
+AfterDieline = After Memory (λ e. record { kind = Dieline; rule = Fold e })
+
+-- one that needs the job of a text
+abbrev pub AfterJob : {A : Type 0} → Result Job LineError → (Job → Result A BadFile → Type 0) → Result A BadFile → Type 0
+AfterJob = After NoMemoryForLine (λ e. record { kind = JobFile; rule = Line e })
+
+-- one that needs the plan of a text
+abbrev pub AfterPlan : {A : Type 0} → Result PlainPlan LineError → (Plan → Result A BadFile → Type 0) → Result A BadFile → Type 0
+AfterPlan read P = After NoMemoryForLine (λ e. record { kind = PlanFile; rule = Line e }) read (λ p outcome. (plan : Plan) × (plain plan ≡ p) × P plan outcome)

@@ -1,10 +1,12 @@
 -- The command line: which words are a command, and the files that it names.
-use Rattle.std.specs.Prelude.{◌≡◌, ◌≢◌, ℕ, ◌≤◌, List, [], ◌∷◌, codes, Option, Some, None, map, String, string_bytes}
+use Rattle.std.specs.Prelude.{⊤, ◌≡◌, ◌≢◌, ℕ, ◌≤◌, List, [], ◌∷◌, codes, Option, Some, None, map, String, string_bytes}
 use Rattle.std.specs.declared.alloc.Global.{Global}
 use Rattle.std.specs.Fmt.{decimal}
 use Rattle.carton_base.specs.declared.limits.TheConstants.{WIDEST_MARGIN}
 use Rattle.carton_tool.specs.Files.{Named}
-use Rattle.carton_tool.specs.declared.files.FileKind.TheVariants.{Dieline}
+use Rattle.carton_tool.specs.declared.end.End.{End}
+use Rattle.carton_tool.specs.declared.end.End.TheVariants.{Start, Target}
+use Rattle.carton_tool.specs.declared.files.FileKind.TheVariants.{Dieline, Job, Plan}
 
 -- the bytes of the words
 abbrev pub texts : List (String Global) → List (List ℕ)
@@ -13,18 +15,31 @@ texts words = map string_bytes words
 -- a command, with the names of its files and its numbers
 pub data Command : Type 0 where
   flat : List ℕ → ℕ → Command
+  pose : List ℕ → List ℕ → End → Command
+  check : List ℕ → List ℕ → List ℕ → Command
+
+-- the word for an end of a task
+abbrev pub end_word : End → List ℕ
+end_word Start = codes "start"
+end_word Target = codes "target"
 
 -- the words of a command; a number is in decimal, with no sign or leading zero
 abbrev pub spelled : Command → List (List ℕ)
 spelled (flat dieline margin) = codes "flat" ∷ dieline ∷ decimal margin ∷ []
+spelled (pose dieline job end) = codes "pose" ∷ dieline ∷ job ∷ end_word end ∷ []
+spelled (check dieline job plan) = codes "check" ∷ dieline ∷ job ∷ plan ∷ []
 
 -- the numbers of a command lie in their ranges
 abbrev pub AreBounded : Command → Type 0
 AreBounded (flat dieline margin) = margin ≤ WIDEST_MARGIN
+AreBounded (pose dieline job end) = ⊤
+AreBounded (check dieline job plan) = ⊤
 
 -- the files that a command reads, in the order of reading
 abbrev pub files_of : Command → List Named
 files_of (flat dieline margin) = record { kind = Dieline; name = dieline } ∷ []
+files_of (pose dieline job end) = (record { kind = Dieline; name = dieline }) ∷ (record { kind = Job; name = job }) ∷ []
+files_of (check dieline job plan) = (record { kind = Dieline; name = dieline }) ∷ (record { kind = Job; name = job }) ∷ (record { kind = Plan; name = plan }) ∷ []
 
 -- no name is empty
 abbrev pub AreNames : List Named → Type 0

@@ -1,7 +1,9 @@
-ghost use Rattle.std.specs.Prelude.{◌≡◌, IfOk, string_bytes};
+ghost use Rattle.std.specs.Prelude.{◌≡◌, IfOk};
 ghost use Rattle.carton_tool.specs.Answers.{text_of, status_of};
 
+use crate::check::{CheckAnswer, check_status, check_text};
 use crate::flat::{FlatAnswer, flat_status, flat_text};
+use crate::pose::{PoseAnswer, pose_status, pose_text};
 use crate::refusal::{BadFile, refusal_text};
 use crate::status::Status;
 use std::alloc::{AllocError, Global};
@@ -12,6 +14,8 @@ pub enum Answer {
     BadWords,
     Bad(BadFile),
     Flat(FlatAnswer),
+    Pose(PoseAnswer),
+    Check(CheckAnswer),
 }
 
 /// The status that goes with an answer.
@@ -22,16 +26,20 @@ pub fn status(answer: &Answer) -> Status
         Answer::BadWords => Status::BadWords,
         Answer::Bad(_) => Status::BadInput,
         Answer::Flat(answer) => flat_status(*answer),
+        Answer::Pose(answer) => pose_status(answer),
+        Answer::Check(answer) => check_status(*answer),
     }
 }
 
 /// The text of an answer, with its line feeds.
-pub fn text(alloc: Global, answer: &Answer) -> Result<String, AllocError>
-    ensures { IfOk result (λ text. string_bytes text ≡ text_of answer.now) }
+pub fn text(alloc: Global, answer: &Answer) -> Result<Vec<u8>, AllocError>
+    ensures { IfOk result (λ text. text.items ≡ text_of answer.now) }
 {
     match answer {
-        Answer::BadWords => String::from_str(alloc, "bad words\n"),
-        Answer::Bad(file) => refusal_text(alloc, *file),
-        Answer::Flat(answer) => flat_text(alloc, *answer),
+        Answer::BadWords => Ok(String::from_str(alloc, "bad words\n")?.into_bytes()),
+        Answer::Bad(file) => Ok(refusal_text(alloc, *file)?.into_bytes()),
+        Answer::Flat(answer) => Ok(flat_text(alloc, *answer)?.into_bytes()),
+        Answer::Pose(answer) => pose_text(alloc, answer),
+        Answer::Check(answer) => Ok(check_text(alloc, *answer)?.into_bytes()),
     }
 }

@@ -13,6 +13,8 @@ use std::alloc::{AllocFailed, Global};
 #[derive(Clone, Copy, Debug, PartialEq, Eq)]
 pub enum FileKind {
     Dieline,
+    Job,
+    Plan,
 }
 
 impl FileKind {
@@ -22,6 +24,8 @@ impl FileKind {
     {
         match self {
             FileKind::Dieline => "dieline",
+            FileKind::Job => "job",
+            FileKind::Plan => "plan",
         }
     }
 
@@ -31,7 +35,7 @@ impl FileKind {
         ensures bound { result ≤ 2 ^ 28 }
     {
         match self {
-            FileKind::Dieline => MOST_BYTES,
+            FileKind::Dieline | FileKind::Job | FileKind::Plan => MOST_BYTES,
         }
     }
 }

@@ -2,11 +2,15 @@
 #![tactic(auto)]
 
 mod answer;
+mod check;
+mod end;
 mod files;
 mod flat;
 mod halt;
+mod pose;
 mod printed;
 mod refusal;
+mod setup;
 mod status;
 mod steady;
 mod tool;

@@ -1,18 +1,25 @@
 ghost use Rattle.std.specs.Prelude.{◌≡◌, IfOk, IfErr, string_bytes};
-ghost use Rattle.carton_tool.specs.Refusals.{fold_text as fold_text_of, panel_text as panel_text_of, rule_text as rule_text_of, refusal_text as refusal_text_of};
+ghost use Rattle.carton_tool.specs.Refusals.{fold_text as fold_text_of, panel_text as panel_text_of, tree_text as tree_text_of, line_text as line_text_of, fit_text as fit_text_of, rule_text as rule_text_of, refusal_text as refusal_text_of};
+ghost use Rattle.carton_tool.specs.declared.refusal.Refusal.TheVariants.{NoMemory};
 
 use crate::files::FileKind;
-use carton_base::PanelId;
+use carton_base::{EdgeId, OutOfMemory, PanelId};
 use carton_fold::FoldError;
 use carton_panels::PanelError;
+use carton_text::{JobError, LineError};
+use carton_tree::TreeError;
 use std::alloc::{AllocError, Global};
 
-/// The rule that a file breaks: it has too many bytes, its text fails, or a face of it is no panel.
+/// The rule that a file breaks: it has too many bytes, its text fails, a face of it is no panel, its
+/// panels are no carton, or it doesn't fit the dieline.
 #[derive(Clone, Copy, Debug, PartialEq, Eq)]
 pub enum Rule {
     TooLong,
     Fold(FoldError),
     Panel(PanelError),
+    Tree(TreeError),
+    Line(LineError),
+    Fit(JobError),
 }
 
 /// A file that is refused.
@@ -27,6 +34,14 @@ pub struct BadFile {
 pub enum Refusal {
     Bad(BadFile),
     NoMemory,
+}
+
+impl From<OutOfMemory> for Refusal {
+    ghost from_gives = { λ _ refusal. refusal ≡ NoMemory };
+
+    fn from(_e: OutOfMemory) -> Refusal {
+        Refusal::NoMemory
+    }
 }
 
 fn fold_text(alloc: Global, e: FoldError) -> Result<String, AllocError>
@@ -61,6 +76,53 @@ fn panel_text(alloc: Global, e: PanelError) -> Result<String, AllocError>
     }
 }
 
+fn tree_text(alloc: Global, e: TreeError) -> Result<String, AllocError>
+    ensures { IfOk result (λ text. string_bytes text ≡ tree_text_of e) }
+{
+    match e {
+        TreeError::Panel(e) => panel_text(alloc, e),
+        TreeError::SideNoEdge(PanelId(panel), side) => {
+            format!(in alloc; "no edge panel {panel} side {side}")
+        }
+        TreeError::ThreeFaces(EdgeId(edge)) => format!(in alloc; "three panels edge {edge}"),
+        TreeError::SameSide(EdgeId(edge)) => format!(in alloc; "same side edge {edge}"),
+        TreeError::Slanted(EdgeId(edge)) => format!(in alloc; "slanted edge {edge}"),
+        TreeError::Loop(EdgeId(edge)) => format!(in alloc; "loop edge {edge}"),
+        TreeError::NoRoot(root) => format!(in alloc; "no root {root}"),
+        TreeError::Apart(PanelId(panel)) => format!(in alloc; "apart panel {panel}"),
+        TreeError::TooDeep(PanelId(panel)) => format!(in alloc; "too deep panel {panel}"),
+        TreeError::Memory => String::from_str(alloc, "out of memory"),
+    }
+}
+
+fn line_text(alloc: Global, e: LineError) -> Result<String, AllocError>
+    ensures { IfOk result (λ text. string_bytes text ≡ line_text_of e) }
+{
+    match e {
+        LineError::BadLine(number) => format!(in alloc; "bad line {number}"),
+        LineError::Range(number) => format!(in alloc; "range line {number}"),
+        LineError::Duplicate(number) => format!(in alloc; "duplicate line {number}"),
+        LineError::NoEnd => String::from_str(alloc, "no end"),
+        LineError::Memory => String::from_str(alloc, "out of memory"),
+    }
+}
+
+fn fit_text(alloc: Global, e: JobError) -> Result<String, AllocError>
+    ensures { IfOk result (λ text. string_bytes text ≡ fit_text_of e) }
+{
+    match e {
+        JobError::NotAJoint(EdgeId(edge)) => format!(in alloc; "not a joint edge {edge}"),
+        JobError::LockedEdge(EdgeId(edge)) => format!(in alloc; "locked edge {edge}"),
+        JobError::NoAngles => String::from_str(alloc, "no angles"),
+        JobError::AngleNotExact(EdgeId(edge)) => {
+            format!(in alloc; "angle not exact edge {edge}")
+        }
+        JobError::EmptyTeam(number) => format!(in alloc; "empty team line {number}"),
+        JobError::TooManyTeams(count) => format!(in alloc; "too many teams {count}"),
+        JobError::Memory => String::from_str(alloc, "out of memory"),
+    }
+}
+
 fn rule_text(alloc: Global, rule: Rule) -> Result<String, AllocError>
     ensures { IfOk result (λ text. string_bytes text ≡ rule_text_of rule) }
 {
@@ -68,6 +130,9 @@ fn rule_text(alloc: Global, rule: Rule) -> Result<String, AllocError>
         Rule::TooLong => String::from_str(alloc, "too long"),
         Rule::Fold(e) => fold_text(alloc, e),
         Rule::Panel(e) => panel_text(alloc, e),
+        Rule::Tree(e) => tree_text(alloc, e),
+        Rule::Line(e) => line_text(alloc, e),
+        Rule::Fit(e) => fit_text(alloc, e),
     }
 }
 

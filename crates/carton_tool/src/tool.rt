@@ -4,12 +4,14 @@ ghost use Rattle.carton_io.specs.Told.{raised, Rose, GrewInPart};
 ghost use Rattle.carton_tool.specs.Words.{texts, Command, flat, files_of, IsCommand, IsNoCommand, AreBounded};
 ghost use Rattle.carton_tool.specs.Asked.{asked};
 ghost use Rattle.carton_tool.specs.Refusals.{IsOutcome};
-ghost use Rattle.carton_tool.specs.Answers.{text_of, status_of, answer_of as answer_of_outcome, IsAnswerTo, IsAnswer, AreFiles, IsAnswered, IsDetermined, IsNamed};
+ghost use Rattle.carton_tool.specs.Answers.{text_of, status_of, answer_of as answer_of_outcome, IsAnswerTo, IsAnswer, AreFiles, IsAnswered, IsDetermined, IsNamed, IsCheckOfSound};
 
 use crate::answer::{Answer, status, text};
+use crate::check::check_answer;
 use crate::files::{Unread, bytes_at, read_all};
 use crate::flat::flat_answer;
 use crate::halt::Halt;
+use crate::pose::pose_answer;
 use crate::refusal::{BadFile, Refusal, Rule};
 use crate::status::Status;
 use crate::words::{Asked, command_of, wanted_by};
@@ -27,6 +29,18 @@ fn outcome_of(alloc: Global, command: Asked<'_>, files: &[Listed<u8>]) -> Result
         Asked::Flat { margin, .. } => {
             Ok(Answer::Flat(flat_answer(alloc, bytes_at(files, 0), margin)?))
         }
+        Asked::Pose { end, .. } => Ok(Answer::Pose(pose_answer(
+            alloc,
+            bytes_at(files, 0),
+            bytes_at(files, 1),
+            end,
+        )?)),
+        Asked::Check { .. } => Ok(Answer::Check(check_answer(
+            alloc,
+            bytes_at(files, 0),
+            bytes_at(files, 1),
+            bytes_at(files, 2),
+        )?)),
     }
 }
 
@@ -84,7 +98,7 @@ fn say<K: Sink>(alloc: Global, answer: &Answer, sink: &mut K) -> Status
     let Ok(text) = text(alloc, answer) else {
         return Status::NoMemory;
     };
-    match sink.put(text.as_bytes()) {
+    match sink.put(&text) {
         Ok(()) => status(answer),
         Err(SinkFault) => Status::WriteFault,
     }
@@ -118,6 +132,9 @@ pub fn run<S: Shelf, K: Sink>(
     ensures silent { (result ≡ Status.NoMemory) ⊎ (result ≡ Status.ReadFault) → K.written sink.new ≡ K.written sink.old }
     ensures answered { result ≢ Status.NoMemory → result ≢ Status.ReadFault → result ≢ Status.WriteFault
         → IsAnswered (S.holds shelf.old) (S.had shelf.new) (texts words.now) result (Appends (K.written sink.old) (K.written sink.new)) }
+
+    // A plan that is told to hold is sound.
+    ensures holds_sound { result ≡ Status.Done → IsCheckOfSound (S.holds shelf.old) (texts words.now) }
 
     // The words and the bytes of the files that they name determine the text and the status.
     ensures determined { IsDetermined (texts words.now) }

@@ -1,8 +1,10 @@
 ghost use Rattle.std.specs.Prelude.{◌≡◌, ◌↔◌, ◌≤◌, ◌≢◌, ℕ, List, [], IsTrue, IfOk, Option, Some, None, map, option_map, MatchOption};
 ghost use Rattle.std.specs.Fmt.{decimal};
-ghost use Rattle.carton_tool.specs.Words.{texts, flat, files_of, IsCommand, IsFound};
+ghost use Rattle.carton_tool.specs.Words.{texts, flat, pose, check, end_word, files_of, IsCommand, IsFound};
+ghost use Rattle.carton_tool.specs.declared.end.End.{End};
 ghost use Rattle.carton_tool.specs.Asked.{asked, named};
 
+use crate::end::End;
 use crate::files::{FileKind, Wanted};
 use carton_base::{OutOfMemory, WIDEST_MARGIN};
 use std::alloc::{AllocError, Global};
@@ -10,7 +12,20 @@ use std::alloc::{AllocError, Global};
 /// What a command line asks for. Names of files are as the words give them.
 #[derive(Clone, Copy, Debug)]
 pub enum Asked<'a> {
-    Flat { dieline: &'a str, margin: u16 },
+    Flat {
+        dieline: &'a str,
+        margin: u16,
+    },
+    Pose {
+        dieline: &'a str,
+        job: &'a str,
+        end: End,
+    },
+    Check {
+        dieline: &'a str,
+        job: &'a str,
+        plan: &'a str,
+    },
 }
 
 fn is_same(word: &str, other: &str) -> bool
@@ -42,6 +57,19 @@ fn margin_of(alloc: Global, word: &str) -> Result<Option<u16>, AllocError>
     }
 }
 
+// The end of a task that a word names.
+fn end_of(word: &str) -> Option<End>
+    ensures { MatchOption result ((end : End) → word.now ≢ end_word end) (λ end. word.now ≡ end_word end) }
+{
+    if is_same(word, "start") {
+        Some(End::Start)
+    } else if is_same(word, "target") {
+        Some(End::Target)
+    } else {
+        None
+    }
+}
+
 // The command `flat` where the words are one.
 fn flat_in<'a>(alloc: Global, words: &'a [String]) -> Result<Option<Asked<'a>>, OutOfMemory>
     ensures { IfOk result (λ c. MatchOption c
@@ -63,12 +91,63 @@ fn flat_in<'a>(alloc: Global, words: &'a [String]) -> Result<Option<Asked<'a>>, 
     }
 }
 
+// The command `pose` where the words are one.
+fn pose_in<'a>(words: &'a [String]) -> Option<Asked<'a>>
+    ensures { MatchOption result
+        ((dieline job : List ℕ) (end : End) → ¬ (IsCommand (texts words.now) (pose dieline job end)))
+        (λ a. IsCommand (texts words.now) (asked a)) }
+{
+    let [command, dieline, job, end] = words else {
+        return None;
+    };
+    if !is_same(command.as_str(), "pose") || !is_name(dieline.as_str()) || !is_name(job.as_str()) {
+        return None;
+    }
+    match end_of(end.as_str()) {
+        Some(end) => Some(Asked::Pose {
+            dieline: dieline.as_str(),
+            job: job.as_str(),
+            end,
+        }),
+        None => None,
+    }
+}
+
+// The command `check` where the words are one.
+fn check_in<'a>(words: &'a [String]) -> Option<Asked<'a>>
+    ensures { MatchOption result
+        ((dieline job plan : List ℕ) → ¬ (IsCommand (texts words.now) (check dieline job plan)))
+        (λ a. IsCommand (texts words.now) (asked a)) }
+{
+    let [command, dieline, job, plan] = words else {
+        return None;
+    };
+    if !is_same(command.as_str(), "check")
+        || !is_name(dieline.as_str())
+        || !is_name(job.as_str())
+        || !is_name(plan.as_str())
+    {
+        return None;
+    }
+    Some(Asked::Check {
+        dieline: dieline.as_str(),
+        job: job.as_str(),
+        plan: plan.as_str(),
+    })
+}
+
 /// The command that the words are; None where they are none.
 pub fn command_of<'a>(alloc: Global, words: &'a [String]) -> Result<Option<Asked<'a>>, OutOfMemory>
     ensures { IfOk result (λ c. IsFound (texts words.now) (option_map asked c)) }
 {
     if let Some(flat) = flat_in(alloc, words)? {
         return Ok(Some(flat));
+    }
+    if let Some(pose) = pose_in(words) {
+        return Ok(Some(pose));
+    }
+    if let Some(check) = check_in(words) {
+        return Ok(Some(check));
     }
     Ok(None)
 }
@@ -82,6 +161,30 @@ pub fn wanted_by<'a>(alloc: Global, command: Asked<'a>) -> Result<Vec<Wanted<'a>
             Wanted {
                 kind: FileKind::Dieline,
                 name: dieline,
+            },
+        ]?),
+        Asked::Pose { dieline, job, .. } => Ok(vec![in alloc;
+            Wanted {
+                kind: FileKind::Dieline,
+                name: dieline,
+            },
+            Wanted {
+                kind: FileKind::Job,
+                name: job,
+            },
+        ]?),
+        Asked::Check { dieline, job, plan } => Ok(vec![in alloc;
+            Wanted {
+                kind: FileKind::Dieline,
+                name: dieline,
+            },
+            Wanted {
+                kind: FileKind::Job,
+                name: job,
+            },
+            Wanted {
+                kind: FileKind::Plan,
+                name: plan,
             },
         ]?),
     }

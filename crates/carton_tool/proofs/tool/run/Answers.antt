@@ -1,6 +1,7 @@
-use Rattle.std.proofs.Common.{refl}
+use Rattle.std.proofs.Common.{refl, sym, ◌∙◌}
 use Rattle.carton_tool.specs.Answers.{text_of, status_of}
 use Rattle.carton_tool.specs.Words.{texts}
+use Rattle.carton_tool.proofs.CheckSound.{sound_where_done}
 use Rattle.carton_tool.proofs.OneAnswer.{determined}
 use Rattle.carton_tool.proofs.tool.run.Goals as goal
 
@@ -17,3 +18,9 @@ returns-in-Err-ReadFault-clause-determined g c = determined (texts c.args.words.
 
 pub returns-in-Err-NoMemory-clause-determined : goal.returns-in-Err-NoMemory-clause-determined
 returns-in-Err-NoMemory-clause-determined g c = determined (texts c.args.words.now)
+
+pub returns-in-Ok-clause-holds_sound : goal.returns-in-Ok-clause-holds_sound
+returns-in-Ok-clause-holds_sound g c = λ done.
+    let a = c.in-Ok.ensures.answered in
+    let told = c.say.ensures.said (λ e. absurd (cc)) (λ e. absurd (cc)) in
+    sound_where_done (g.S.Shelf.holds c.args.shelf.now) _ (texts c.args.words.now) a.0 c.in-Ok.answer a.1 a.2 (sym told.0 ∙ done)

@@ -1,0 +1,41 @@
+use Rattle.std.proofs.Common.{Ok, Err, refl, sym, subst}
+use Rattle.std.proofs.lemmas.Result.{err_from_is_err_and}
+use Rattle.carton_tool.specs.Check.{IsCheck}
+use Rattle.carton_tool.specs.Files.{file_at}
+use Rattle.carton_tool.specs.Pose.{IsPoseOutcome}
+use Rattle.carton_tool.specs.Refusals.{IsOutcome}
+use Rattle.carton_tool.specs.declared.answer.Answer.TheVariants.{Pose, Check}
+use Rattle.carton_tool.proofs.Owning.{own_refusal}
+use Rattle.carton_tool.proofs.tool.outcome_of.Goals as goal
+
+pub returns-in_err-pose_answer-in-Pose : goal.returns-in_err-pose_answer-in-Pose
+returns-in_err-pose_answer-in-Pose c =
+    let p = err_from_is_err_and c.from_residual-in_err-pose_answer-in-Pose.result c.from_residual-in_err-pose_answer-in-Pose.ensures.1 in
+    let P = IsPoseOutcome c.in-Pose.end (file_at 0 c.args.files.now) (file_at 1 c.args.files.now) in
+    let e = c.in_err-pose_answer-in-Pose.field-0.0 in
+    let first = subst (λ d. IsOutcome (IsPoseOutcome c.in-Pose.end d c.bytes_at-in-Pose-2.result.now) (Err e)) c.bytes_at-in-Pose.ensures c.in_err-pose_answer-in-Pose.ensures in
+    let h = subst (λ j. IsOutcome (IsPoseOutcome c.in-Pose.end (file_at 0 c.args.files.now) j) (Err e)) c.bytes_at-in-Pose-2.ensures first in
+    rw (c.in-Pose.is, p.1, p.2) (own_refusal Pose P e h)
+
+pub returns-in_ok-pose_answer-in-Pose : goal.returns-in_ok-pose_answer-in-Pose
+returns-in_ok-pose_answer-in-Pose c =
+    let P = IsPoseOutcome c.in-Pose.end (file_at 0 c.args.files.now) (file_at 1 c.args.files.now) in
+    let h : IsOutcome P (Ok c.in_ok-pose_answer-in-Pose.field-0) = rw (sym c.bytes_at-in-Pose.ensures, sym c.bytes_at-in-Pose-2.ensures) c.in_ok-pose_answer-in-Pose.ensures in
+    rw c.in-Pose.is (Ok c.in_ok-pose_answer-in-Pose.field-0, h, refl)
+
+pub returns-in_err-check_answer-in-Check : goal.returns-in_err-check_answer-in-Check
+returns-in_err-check_answer-in-Check c =
+    let p = err_from_is_err_and c.from_residual-in_err-check_answer-in-Check.result c.from_residual-in_err-check_answer-in-Check.ensures.1 in
+    let files = c.args.files.now in
+    let e = c.in_err-check_answer-in-Check.field-0.0 in
+    let first = subst (λ d. IsOutcome (IsCheck d c.bytes_at-in-Check-2.result.now c.bytes_at-in-Check-3.result.now) (Err e)) c.bytes_at-in-Check.ensures c.in_err-check_answer-in-Check.ensures.outcome in
+    let second = subst (λ j. IsOutcome (IsCheck (file_at 0 files) j c.bytes_at-in-Check-3.result.now) (Err e)) c.bytes_at-in-Check-2.ensures first in
+    let h = subst (λ p. IsOutcome (IsCheck (file_at 0 files) (file_at 1 files) p) (Err e)) c.bytes_at-in-Check-3.ensures second in
+    rw (c.in-Check.is, p.1, p.2) (own_refusal Check (IsCheck (file_at 0 files) (file_at 1 files) (file_at 2 files)) e h)
+
+pub returns-in_ok-check_answer-in-Check : goal.returns-in_ok-check_answer-in-Check
+returns-in_ok-check_answer-in-Check c =
+    let files = c.args.files.now in
+    let h : IsOutcome (IsCheck (file_at 0 files) (file_at 1 files) (file_at 2 files)) (Ok c.in_ok-check_answer-in-Check.field-0) =
+    rw (sym c.bytes_at-in-Check.ensures, sym c.bytes_at-in-Check-2.ensures, sym c.bytes_at-in-Check-3.ensures) c.in_ok-check_answer-in-Check.ensures.outcome in
+    rw c.in-Check.is (Ok c.in_ok-check_answer-in-Check.field-0, h, refl)
