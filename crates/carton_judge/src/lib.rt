@@ -3,6 +3,8 @@
 
 mod geometry;
 mod judge;
+mod range;
 
 pub use geometry::GeometryJudge;
 pub use judge::Judge;
+pub use range::RangeJudge;

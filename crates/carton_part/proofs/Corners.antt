@@ -25,20 +25,20 @@ spot_of : (ts : List Triple) (k : ℕ) (t : Triple) → k < length ts → get_or
 spot_of ts k t lt = get_or-map laid ts k t origin lt
 
 -- a position of a panel's point is a mean of the positions of three of its corners
-record IsOfCorners (t : Tree) (motion : Motion) (a f n d : ℕ) (p : Position) : Type 0 where
-  positive : pos 0 <ℤ p.w
-  i : ℕ
-  j : ℕ
-  k : ℕ
-  at_i : i < corners_in t a
-  at_j : j < corners_in t a
-  at_k : k < corners_in t a
-  mean : IsMeanOfThree p (spots_in t motion a f i n d) (spots_in t motion a f j n d) (spots_in t motion a f k n d)
+pub record IsOfCorners (t : Tree) (motion : Motion) (a f n d : ℕ) (p : Position) : Type 0 where
+  pub positive : pos 0 <ℤ p.w
+  pub i : ℕ
+  pub j : ℕ
+  pub k : ℕ
+  pub at_i : i < corners_in t a
+  pub at_j : j < corners_in t a
+  pub at_k : k < corners_in t a
+  pub mean : IsMeanOfThree p (spots_in t motion a f i n d) (spots_in t motion a f j n d) (spots_in t motion a f k n d)
 
 laid_mean : (x y w : ℤ) (a b c : Triple) (h : IsMean x y w a b c) → AreSums (pos h.k) (pos h.l) (pos h.m) (pos h.n) (flat_at x y w) (laid a) (laid b) (laid c)
 laid_mean x y w a b c h = record { x = h.x_part; y = h.y_part; z = omega (arith, ints); w = h.w_part }
 
-of_corners : (t : Tree) (motion : Motion) (a f n d : ℕ) (p : Position) → IsShape (shape_at t a) → IsMoment n d → IsPointOf t (fold_at motion n d) a f p → IsOfCorners t motion a f n d p
+pub of_corners : (t : Tree) (motion : Motion) (a f n d : ℕ) (p : Position) → IsShape (shape_at t a) → IsMoment n d → IsPointOf t (fold_at motion n d) a f p → IsOfCorners t motion a f n d p
 of_corners t motion a f n d p s m h =
     let folds = fold_at motion n d in
     let turns = turns_between t a f in
@@ -93,7 +93,7 @@ blank : Triple
 blank = record { x = pos 0; y = pos 0; w = pos 1; positive = omega (arith, ints) }
 
 -- each corner of the shrunk panel is a point of it
-corner_is : (t : Tree) (motion : Motion) (a f n d k : ℕ) → IsShape (shape_at t a) → k < corners_in t a → IsPointOf t (fold_at motion n d) a f (spots_in t motion a f k n d)
+pub corner_is : (t : Tree) (motion : Motion) (a f n d k : ℕ) → IsShape (shape_at t a) → k < corners_in t a → IsPointOf t (fold_at motion n d) a f (spots_in t motion a f k n d)
 corner_is t motion a f n d k s lt =
     let c = get_or (shape_at t a).shrunk k blank in
     record {

@@ -9,6 +9,7 @@ mod looking;
 mod over;
 mod walk;
 
-pub use judging::{Verdict, judge_motion};
+pub use judging::{OpenPairs, Verdict, judge_motion, judge_open, open_pairs};
 pub use laws::{corners_part_panels, parted_by_less, parted_panels_do_not_meet};
 pub use over::{Counted, Parting, part_counted, part_over};
+pub use walk::next as next_piece;

@@ -3,7 +3,7 @@ ghost use Rattle.carton_part.specs.Walks.{Follows};
 
 use carton_base::Piece;
 
-// The largest piece that starts where this one ends and is no shorter, None at the end of the move.
+/// The largest piece that starts where this one ends and is no shorter, None at the end of the move.
 pub fn next(piece: Piece) -> Option<Piece>
     ensures some { IfSome result (λ n. Follows piece.index piece.depth n.index n.depth) }
     ensures none { result ≡ None → piece.index + 1 ≡ 2 ^ piece.depth }

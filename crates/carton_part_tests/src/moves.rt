@@ -1,4 +1,4 @@
-ghost use Rattle.std.specs.Prelude.{◌<◌, ◌≤◌, IfSome, IsTrue};
+ghost use Rattle.std.specs.Prelude.{◌≡◌, ◌<◌, ◌≤◌, IfSome, IsTrue};
 ghost use Rattle.carton_base.specs.declared.limits.TheConstants.{MOST_JOINTS};
 ghost use Rattle.carton_model.specs.Moves.{IsMotion};
 ghost use Rattle.carton_part_tests.specs.Steps.{MayTake};
@@ -55,7 +55,8 @@ fn stops_at(first: [i8; 4]) -> [i8; MOST_JOINTS] {
 
 // The move of the first four joints from these stops to those, where it is one.
 pub fn motion(grid: u8, from: [i8; 4], to: [i8; 4]) -> Option<Motion>
-    ensures { IfSome result (IsMotion MOST_JOINTS) }
+    ensures motion { IfSome result (IsMotion MOST_JOINTS) }
+    ensures grid { IfSome result (λ m. m.from.grid ≡ grid) }
 {
     if grid != 8 && grid != 16 {
         return None;

@@ -1,7 +1,7 @@
 use crate::moves::{TRAY, carton, motion};
 use carton_base::{Moment, PanelId};
 use carton_fix::Fix;
-use carton_part::{Verdict, judge_motion};
+use carton_part::{OpenPairs, Verdict, judge_motion, open_pairs};
 use std::alloc::Global;
 
 // What is told of all panels of the tray with margin 4 over a move, with slack 1.
@@ -51,4 +51,42 @@ fn flaps_that_change_places_are_blocked_between(rt: HostRuntime) {
 fn flaps_in_one_place_are_blocked(rt: HostRuntime) {
     let both = [0, 16, 0, 16];
     assert!(rt; blocked(rt.alloc(), both, both).is_some());
+}
+
+// The pairs of the tray that stay open over all moves from flat to these stops.
+fn pairs(alloc: Global, to: [i8; 4]) -> Option<OpenPairs> {
+    let carton = carton(alloc, TRAY, 4, 0)?;
+    let flat = motion(8, [0; 4], [0; 4])?;
+    let folded = motion(8, to, to)?;
+    Some(open_pairs::<Fix>(&carton, &flat.from, &folded.from))
+}
+
+// How many places of the table are open.
+fn count(pairs: &OpenPairs) -> u32 {
+    let mut count = 0u32;
+    for row in &pairs.rows {
+        for open in row {
+            if *open {
+                count = count.saturating_add(1);
+            }
+        }
+    }
+    count
+}
+
+#[test]
+fn flaps_that_rise_to_a_right_angle_are_parted_in_all_moves(rt: HostRuntime) {
+    let Some(pairs) = pairs(rt.alloc(), [8; 4]) else {
+        panic!(rt; "no pairs");
+    };
+    assert_eq!(rt; count(&pairs), 0);
+}
+
+#[test]
+fn flaps_that_fold_onto_each_other_stay_open(rt: HostRuntime) {
+    let Some(pairs) = pairs(rt.alloc(), [0, 16, 0, 16]) else {
+        panic!(rt; "no pairs");
+    };
+    assert_eq!(rt; count(&pairs), 1);
+    assert!(rt; pairs.rows[2][4]);
 }

@@ -7,3 +7,5 @@ pub mod Positions
 pub mod Routes
 pub mod Sizes
 pub mod Starts
+pub mod Passing
+pub mod Along

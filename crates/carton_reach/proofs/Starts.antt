@@ -13,7 +13,7 @@ use Rattle.carton_model.specs.Turning.{angle_of, angles_of, fold_of, laid}
 use Rattle.carton_panels.specs.Shapes.{Shape, IsShape}
 use Rattle.carton_place.specs.declared.swings.Swing.{Swing}
 use Rattle.carton_place.specs.Held.{HoldsSwing}
-use Rattle.carton_place.specs.Swings.{IsSwingOver, IsFlatWithin}
+use Rattle.carton_place.specs.Swings.{FollowsMove, IsFlatWithin}
 use Rattle.carton_place.proofs.Lists.{beside}
 use Rattle.carton_place.proofs.Starts.{rounded_between, rounded_size, rounded_spread}
 use Rattle.carton_tree.specs.Cartons.{IsStart, AreStarts}
@@ -85,7 +85,7 @@ flat_at (x ∷ xs) (suc k) t l = flat_at xs k t (omega (arith, l))
 
 -- the corners stand where the turns take the starts
 pub turned : (motion : Motion) (turns : List Turn) (swings : List Swing) (corners : List Triple) (starts : List Start) (index depth : ℕ) → AreStarts corners starts → length turns ≤ length swings
-    → ((k : ℕ) (s : Swing) (t : Turn) → k < length turns → IsSwingOver motion (get_or turns k t).place index depth (get_or swings k s))
+    → ((k : ℕ) (s : Swing) (t : Turn) → k < length turns → FollowsMove (get_or swings k s) motion (get_or turns k t).place index depth)
     → (k : ℕ) (s : Start) → k < length starts → Within index depth (λ n d. IsTurnedFrom turns (take (length turns) swings) (get_or starts k s) (n * 2 ^ depth - index * d) d (spots_after motion turns corners k n d))
 turned motion turns swings corners starts index depth h enough over k s l n d m i =
     let count = length turns in
@@ -97,7 +97,7 @@ turned motion turns swings corners starts index depth h enough over k s l n d m 
       angles = angles_of (fold_at motion n d) turns;
       flat = get_or (map laid corners) k origin;
       have = beside part d angle (take count swings) turns (length-take-le count swings enough)
-          (λ j r t b. subst (λ r. HoldsSwing r part d (angle (get_or turns j t))) (sym (get_or-take count swings j r b)) ((over j r t b).follows part n d (own_moment index depth n d m i) (omega (arith, i.from))));
+          (λ j r t b. subst (λ r. HoldsSwing r part d (angle (get_or turns j t))) (sym (get_or-take count swings j r b)) (over j r t b part n d (own_moment index depth n d m i) (omega (arith, i.from))));
       start = subst (IsFlatWithin (get_or starts k s).x (get_or starts k s).y) (sym flat) (flat_start (get_or corners k c) (get_or starts k s) (start_at corners starts k c s h l));
       after = refl;
     }

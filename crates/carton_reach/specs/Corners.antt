@@ -1,5 +1,5 @@
 -- How far one corner reaches, by what a space holds of it.
-use Rattle.std.specs.Prelude.{◌≡◌, ℕ, ◌+◌, ◌<◌, List, get_or, ℤ, pos, ◌-ℤ◌, ◌≤ℤ◌}
+use Rattle.std.specs.Prelude.{◌≡◌, ℕ, ◌+◌, ◌<◌, ◌≤◌, List, get_or, ℤ, pos, ◌-ℤ◌, ◌≤ℤ◌}
 use Rattle.std.specs.Int.{int_min, int_max}
 use Rattle.carton_base.specs.Moments.{IsMoment}
 use Rattle.carton_base.specs.Rounding.{IsBetween}
@@ -23,6 +23,12 @@ pub record IsReachAt {E : Type 0} (holds : Holding E) (spread : E → ℕ) (s : 
 -- those along the 13 axes
 abbrev pub AreReachesAt : {E : Type 0} → Holding E → (E → ℕ) → Space E → List Reach → Type 0
 AreReachesAt holds spread s rs = (a : ℕ) (d : Reach) → a < 13 → IsReachAt holds spread s (axis_at a) (get_or rs a d)
+
+-- e holds how far the point that the space holds lies along the direction; it is no larger and no wider than the parts together
+pub record IsAlong {E : Type 0} (holds : Holding E) (size spread : E → ℕ) (s : Space E) (v : List ℤ) (e : E) : Type 0 where
+  pub held : (n d : ℕ) (x y z : ℤ) (w : ℕ) → IsMoment n d → 0 < w → HoldsPoint holds s n d x y z w → holds e n d (dot v x y z) w
+  pub small : size e ≤ size s.x + size s.y + size s.z
+  pub narrow : spread e ≤ spread s.x + spread s.y + spread s.z
 
 -- r is the reach of the corners of p and of q
 pub record IsJoined (p q r : Reach) : Type 0 where

@@ -4,3 +4,4 @@ pub mod Corners
 pub mod Reaches
 pub mod Spots
 pub mod Starts
+pub mod Ranges

@@ -1,26 +1,18 @@
-ghost use Rattle.std.specs.Prelude.{◌≡◌, ℕ, ◌<◌, ◌≤◌, ◌^◌, ◌+◌, length, All};
+ghost use Rattle.std.specs.Prelude.{◌≡◌, ℕ, ◌<◌, ◌≤◌, ◌^◌, ◌+◌, length, List, ℤ, All};
 ghost use Rattle.carton_base.specs.Moments.{IsMoment};
 ghost use Rattle.carton_base.specs.declared.limits.TheConstants.{LONGEST_PATH};
 ghost use Rattle.carton_model.specs.Parting.{Position};
 ghost use Rattle.carton_model.specs.Turning.{IsTurn};
 ghost use Rattle.carton_place.specs.Held.{HoldsPosition, IsSwingWithin, greatest};
-ghost use Rattle.carton_reach.specs.Axes.{axis_at};
-ghost use Rattle.carton_reach.specs.Corners.{IsReachAt, AreReachesAt, AreWidened};
+ghost use Rattle.carton_enclose.specs.declared.space.Space.{Space};
+ghost use Rattle.carton_reach.specs.Corners.{IsAlong, IsReachAt, AreReachesAt, AreWidened};
 ghost use Rattle.carton_reach.specs.Starts.{IsNearStart, IsTurnedFrom, most_units};
 
-use crate::axes::axis;
 use crate::reach::{Reach, Reaches};
 use carton_base::Turn;
-use carton_enclose::{Enclose, Space, dot3};
+use carton_enclose::{Enclose, Space};
 use carton_place::{Swing, place_from};
 use carton_tree::Start;
-
-const NOWHERE: Reach = Reach {
-    least_low: 0,
-    least_high: 0,
-    greatest_low: 0,
-    greatest_high: 0,
-};
 
 // Where a corner stands after the turns, by one swing for each.
 pub(crate) fn corner_at<E: Enclose>(turns: &[Turn], swings: &[Swing], start: Start) -> Space<E>
@@ -35,13 +27,11 @@ pub(crate) fn corner_at<E: Enclose>(turns: &[Turn], swings: &[Swing], start: Sta
     place_from(turns, swings, start.x, start.y)
 }
 
-// How far one corner reaches along an axis.
-fn reach_along<E: Enclose>(a: usize, at: Space<E>) -> Reach
-    requires axis { a < 13 }
-    requires size { greatest E.size at ≤ 2 ^ 63 }
-    ensures { IsReachAt E.holds E.spread at (axis_at a) result }
+// How far one corner reaches, by how far it lies along an axis.
+fn reach_of<E: Enclose>(along: E) -> Reach
+    requires small { E.size along ≤ 2 ^ 65 }
+    ensures { (at : Space E) (v : List ℤ) → IsAlong E.holds E.size E.spread at v along → IsReachAt E.holds E.spread at v result }
 {
-    let along = dot3(axis(a), at);
     let low = along.low();
     let high = along.high();
     Reach {
@@ -52,17 +42,42 @@ fn reach_along<E: Enclose>(a: usize, at: Space<E>) -> Reach
     }
 }
 
+// How far one corner reaches along each axis, in the order of the axes. Sums and differences of two
+// parts serve several axes.
+fn reaches_at<E: Enclose>(at: Space<E>) -> [Reach; 13]
+    requires { greatest E.size at ≤ 2 ^ 63 }
+    ensures reaches { AreReachesAt E.holds E.spread at result }
+    ensures length { length result ≡ 13 }
+{
+    let (x, y, z) = (at.x, at.y, at.z);
+    let up = y.add(z);
+    let down = y.sub(z);
+    [
+        reach_of(z),
+        reach_of(down),
+        reach_of(y),
+        reach_of(up),
+        reach_of(x.sub(up)),
+        reach_of(x.sub(y)),
+        reach_of(x.sub(down)),
+        reach_of(x.sub(z)),
+        reach_of(x),
+        reach_of(x.add(z)),
+        reach_of(x.add(down)),
+        reach_of(x.add(y)),
+        reach_of(x.add(up)),
+    ]
+}
+
 impl Reaches {
     // How far one corner reaches along each axis.
     pub(crate) fn of_corner<E: Enclose>(at: Space<E>) -> Reaches
         requires { greatest E.size at ≤ 2 ^ 63 }
         ensures { AreReachesAt E.holds E.spread at result.axes }
     {
-        let mut axes = [NOWHERE; 13];
-        for a in 0..13 {
-            axes[a] = reach_along(a, at);
+        Reaches {
+            axes: reaches_at(at),
         }
-        Reaches { axes }
     }
 
     // Takes one corner more into the reaches.
@@ -70,8 +85,9 @@ impl Reaches {
         requires { greatest E.size at ≤ 2 ^ 63 }
         ensures { AreWidened E.holds E.spread at self.old.axes self.new.axes }
     {
+        let more = reaches_at(at);
         for a in 0..13 {
-            self.axes[a] = self.axes[a].joined(reach_along(a, at));
+            self.axes[a] = self.axes[a].joined(more[a]);
         }
     }
 }

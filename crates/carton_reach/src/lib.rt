@@ -1,12 +1,12 @@
 //! How far the shrunk panels of a carton reach along 13 axes, in the frames of its panels, over pieces of a move.
 #![tactic(auto)]
 
-mod axes;
 mod corners;
 mod looking;
+mod ranges;
 mod reach;
 mod reaching;
 
 pub use looking::{are_apart, are_near};
 pub use reach::{Reach, Reaches};
-pub use reaching::reaches;
+pub use reaching::{reaches, reaches_within};

@@ -1,13 +1,4 @@
-use Rattle.std.proofs.Common.{ℕ, pos, refl, below_more}
-use Rattle.carton_part.specs.Answers.{StayParted}
-use Rattle.carton_part.specs.Parted.{AreStrangers}
 use Rattle.carton_part.proofs.judging.judge_motion.Goals as goal
 
-pub close_all-requires-clause-rows : goal.close_all-requires-clause-rows
-close_all-requires-clause-rows g c = c.all_strangers-rows.ensures c.args.motion.now
-
-pub loop-a-preserved : goal.loop-a-preserved
-loop-a-preserved g c =
-    let Stay = λ (a : ℕ). (b : ℕ) → AreStrangers c.args.carton.now a b → StayParted c.args.carton.now c.args.motion.now a b (pos 0) in
-    let more = below_more Stay c.loop-a.a (λ a l b s. c.loop-a.invariant.1 a b l s) (c.in_default.ensures.none refl) in
-    (c.close_all.ensures, λ a b l s. more a l b s)
+pub judge_open-requires-clause-pairs : goal.judge_open-requires-clause-pairs
+judge_open-requires-clause-pairs g c = c.all_strangers-rows.ensures.rows c.args.motion.now
