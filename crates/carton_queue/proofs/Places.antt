@@ -1,10 +1,10 @@
 -- Reads and writes of the lists of links and priorities.
-use Rattle.std.proofs.Common.{◌≡◌, ℕ, zero, suc, ◌+◌, ◌<◌, List, [], ◌∷◌, ◌++◌, Option, Some, None, get_or, length, inl, inr, refl, ap, sym, ◌∙◌, arith}
+use Rattle.std.proofs.Common.{◌≡◌, ℕ, zero, suc, ◌+◌, ◌<◌, List, [], ◌∷◌, ◌++◌, Option, Some, None, get_or, length, replicate, inl, inr, refl, ap, sym, ◌∙◌, arith}
 use Rattle.std.proofs.Math.ListN.{set}
 use Rattle.std.proofs.lemmas.Bool.{cases_eq}
 use Rattle.carton_queue.specs.Waits.{priority_at}
 use Rattle.carton_queue.specs.Linked.{next_of, previous_of}
-use Rattle.carton_queue.specs.declared.rings.Link.{Link}
+use Rattle.carton_queue.specs.declared.links.Link.{Link}
 
 pub next_get : (xs : List Link) (i : ℕ) (x : Link) → i < length xs → (get_or xs i x).next ≡ next_of xs i
 next_get [] i x l = absurd (omega arith)
@@ -47,9 +47,9 @@ next_kept xs n x l e i = elim (cases_eq i n) [ inl same ↦ ap (next_of (set xs 
 pub previous_kept : (xs : List Link) (n : ℕ) (x : Link) → n < length xs → x.previous ≡ previous_of xs n → (i : ℕ) → previous_of (set xs n x) i ≡ previous_of xs i
 previous_kept xs n x l e i = elim (cases_eq i n) [ inl same ↦ ap (previous_of (set xs n x)) same ∙ previous_here xs n x l ∙ e ∙ sym (ap (previous_of xs) same) | inr o ↦ previous_rest xs n x i o ]
 
--- links that lead to themselves, and one more
-pub next_push : (xs : List Link) (x : Link) → ((i : ℕ) → i < length xs → next_of xs i ≡ i) → x.next ≡ length xs → (i : ℕ) → i < length xs + 1 → next_of (xs ++ x ∷ []) i ≡ i
-next_push xs x h e i l = elim (cases_eq i (length xs)) [ inl same ↦ ap (next_of (xs ++ x ∷ [])) same ∙ last xs x ∙ e ∙ sym same | inr o ↦ first xs x i (less i (length xs) l o) ∙ h i (less i (length xs) l o) ]
+-- links of slots that follow themselves from a start on, and one more
+pub next_push : (start : ℕ) (xs : List Link) (x : Link) → ((i : ℕ) → i < length xs → next_of xs i ≡ start + i) → x.next ≡ start + length xs → (i : ℕ) → i < length xs + 1 → next_of (xs ++ x ∷ []) i ≡ start + i
+next_push start xs x h e i l = elim (cases_eq i (length xs)) [ inl same ↦ ap (next_of (xs ++ x ∷ [])) same ∙ last xs x ∙ e ∙ ap (λ (k : ℕ). start + k) (sym same) | inr o ↦ first xs x i (less i (length xs) l o) ∙ h i (less i (length xs) l o) ]
   where
     last : (xs : List Link) (x : Link) → next_of (xs ++ x ∷ []) (length xs) ≡ x.next
     last [] x = refl
@@ -63,8 +63,8 @@ next_push xs x h e i l = elim (cases_eq i (length xs)) [ inl same ↦ ap (next_o
     less : (i n : ℕ) → i < n + 1 → (i ≡ n → ⊥) → i < n
     less i n l o = omega arith
 
-pub previous_push : (xs : List Link) (x : Link) → ((i : ℕ) → i < length xs → previous_of xs i ≡ i) → x.previous ≡ length xs → (i : ℕ) → i < length xs + 1 → previous_of (xs ++ x ∷ []) i ≡ i
-previous_push xs x h e i l = elim (cases_eq i (length xs)) [ inl same ↦ ap (previous_of (xs ++ x ∷ [])) same ∙ last xs x ∙ e ∙ sym same | inr o ↦ first xs x i (less i (length xs) l o) ∙ h i (less i (length xs) l o) ]
+pub previous_push : (start : ℕ) (xs : List Link) (x : Link) → ((i : ℕ) → i < length xs → previous_of xs i ≡ start + i) → x.previous ≡ start + length xs → (i : ℕ) → i < length xs + 1 → previous_of (xs ++ x ∷ []) i ≡ start + i
+previous_push start xs x h e i l = elim (cases_eq i (length xs)) [ inl same ↦ ap (previous_of (xs ++ x ∷ [])) same ∙ last xs x ∙ e ∙ ap (λ (k : ℕ). start + k) (sym same) | inr o ↦ first xs x i (less i (length xs) l o) ∙ h i (less i (length xs) l o) ]
   where
     last : (xs : List Link) (x : Link) → previous_of (xs ++ x ∷ []) (length xs) ≡ x.previous
     last [] x = refl
@@ -78,11 +78,25 @@ previous_push xs x h e i l = elim (cases_eq i (length xs)) [ inl same ↦ ap (pr
     less : (i n : ℕ) → i < n + 1 → (i ≡ n → ⊥) → i < n
     less i n l o = omega arith
 
-pub at_push : (xs : List (Option ℕ)) → ((n : ℕ) → priority_at xs n ≡ None) → (n : ℕ) → priority_at (xs ++ None ∷ []) n ≡ None
-at_push [] h zero = refl
-at_push [] h (suc n) = refl
-at_push (x ∷ xs) h zero = h 0
-at_push (x ∷ xs) h (suc n) = at_push xs (λ m. h (suc m)) n
+-- a place in the second of two lists
+pub next_after : (xs ys : List Link) (n i : ℕ) → length xs ≡ n → next_of (xs ++ ys) (n + i) ≡ next_of ys i
+next_after xs ys n i e = ap (λ (k : ℕ). next_of (xs ++ ys) (k + i)) (sym e) ∙ step xs
+  where
+    step : (zs : List Link) → next_of (zs ++ ys) (length zs + i) ≡ next_of ys i
+    step [] = ap (next_of ys) (let e : length {A = Link} [] + i ≡ i = omega arith in e)
+    step (z ∷ zs) = ap (next_of (z ∷ (zs ++ ys))) (let e : length (z ∷ zs) + i ≡ suc (length zs + i) = omega arith in e) ∙ step zs
+
+pub previous_after : (xs ys : List Link) (n i : ℕ) → length xs ≡ n → previous_of (xs ++ ys) (n + i) ≡ previous_of ys i
+previous_after xs ys n i e = ap (λ (k : ℕ). previous_of (xs ++ ys) (k + i)) (sym e) ∙ step xs
+  where
+    step : (zs : List Link) → previous_of (zs ++ ys) (length zs + i) ≡ previous_of ys i
+    step [] = ap (previous_of ys) (let e : length {A = Link} [] + i ≡ i = omega arith in e)
+    step (z ∷ zs) = ap (previous_of (z ∷ (zs ++ ys))) (let e : length (z ∷ zs) + i ≡ suc (length zs + i) = omega arith in e) ∙ step zs
+
+pub at_blank : (room n : ℕ) → priority_at (replicate room None) n ≡ None
+at_blank zero n = refl
+at_blank (suc room) zero = refl
+at_blank (suc room) (suc n) = at_blank room n
 
 pub at_set : (xs : List (Option ℕ)) (n : ℕ) (x : Option ℕ) → n < length xs → priority_at (set xs n x) n ≡ x
 at_set [] n x l = absurd (omega arith)

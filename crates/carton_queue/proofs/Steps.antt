@@ -4,7 +4,7 @@ use Rattle.std.proofs.lemmas.Bool.{cases_eq}
 use Rattle.std.proofs.Math.ListN.{set, length-set}
 use Rattle.carton_queue.specs.Waits.{Waiting, priority_at, with_entry}
 use Rattle.carton_queue.specs.Linked.{next_of, previous_of, IsSet, AreSet, InRing, IsRing, IsLinked, IsKept}
-use Rattle.carton_queue.specs.declared.rings.Link.{Link}
+use Rattle.carton_queue.specs.declared.links.Link.{Link}
 use Rattle.carton_queue.proofs.Places.{at_set, at_others, at_within, set_same}
 use Rattle.carton_queue.proofs.Ways.{IsEntry, apart, ring_added, ring_removed, none_there, first_there, ring_empty}
 
@@ -69,11 +69,8 @@ nothing xs links buckets b l k h n = by (priority_at xs n) refl
     by (Some p) e = absurd (let m : b ≤ p = h n p e in let j : p < buckets = k.ring.below n p e in omega (arith, l, m, j))
 
 pub empty_linked : (xs : List (Option ℕ)) (links : List Link) (buckets : ℕ) → length links ≡ length xs + buckets → ((n : ℕ) → priority_at xs n ≡ None)
-    → ((n : ℕ) → n < length links → next_of links n ≡ n) → ((n : ℕ) → n < length links → previous_of links n ≡ n) → IsLinked xs links buckets
-empty_linked xs links buckets e none f g = record {
-  long = e;
-  ring = ring_empty (length xs) buckets (priority_at xs) (next_of links) (previous_of links) none (λ i l. f i (omega (arith, e, l))) (λ i l. g i (omega (arith, e, l)));
-}
+    → ((b : ℕ) → b < buckets → next_of links (length xs + b) ≡ length xs + b) → ((b : ℕ) → b < buckets → previous_of links (length xs + b) ≡ length xs + b) → IsLinked xs links buckets
+empty_linked xs links buckets e none f g = record { long = e; ring = ring_empty (length xs) buckets (priority_at xs) (next_of links) (previous_of links) none f g }
 
 -- what is kept where a node is put
 pub kept_put : (xs ys : List (Option ℕ)) (links : List Link) (buckets n b least now : ℕ) → IsLinked ys links buckets → ys ≡ set xs n (Some b) → n < length xs → length xs < 2 ^ 32

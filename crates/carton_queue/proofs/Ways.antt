@@ -219,7 +219,7 @@ pub first_there : (nodes buckets : ℕ) (at : ℕ → Option ℕ) (next previous
 first_there nodes buckets at next previous b lb ring o = elim (ring.forth.goes b (nodes + b) lb (inr refl)) [ inl p ↦ p | inr q ↦ absurd (o q) ]
 
 -- rings with no node
-pub ring_empty : (nodes buckets : ℕ) (at : ℕ → Option ℕ) (next previous : ℕ → ℕ) → ((n : ℕ) → at n ≡ None) → ((i : ℕ) → i < nodes + buckets → next i ≡ i) → ((i : ℕ) → i < nodes + buckets → previous i ≡ i) → IsRing nodes buckets at next previous
+pub ring_empty : (nodes buckets : ℕ) (at : ℕ → Option ℕ) (next previous : ℕ → ℕ) → ((n : ℕ) → at n ≡ None) → ((b : ℕ) → b < buckets → next (nodes + b) ≡ nodes + b) → ((b : ℕ) → b < buckets → previous (nodes + b) ≡ nodes + b) → IsRing nodes buckets at next previous
 ring_empty nodes buckets at next previous none self_next self_previous = record {
   within = λ n p e. absurd (no n p e);
   below = λ n p e. absurd (no n p e);
@@ -232,8 +232,8 @@ ring_empty nodes buckets at next previous none self_next self_previous = record 
     no : (n p : ℕ) → at n ≡ Some p → ⊥
     no n p e = (let t : at n ≡ None = none n in cc)
 
-    way : (go come : ℕ → ℕ) → ((i : ℕ) → i < nodes + buckets → go i ≡ i) → ((i : ℕ) → i < nodes + buckets → come i ≡ i) → IsWay nodes buckets at go come
+    way : (go come : ℕ → ℕ) → ((b : ℕ) → b < buckets → go (nodes + b) ≡ nodes + b) → ((b : ℕ) → b < buckets → come (nodes + b) ≡ nodes + b) → IsWay nodes buckets at go come
     way go come f g = record {
-      goes = λ b i l w. elim w [ inl p ↦ absurd (no i b p) | inr q ↦ moved nodes at b b i (go i) (inr q) refl (sym (f i (omega (arith, l, q)))) ];
-      back = λ b i l w. elim w [ inl p ↦ absurd (no i b p) | inr q ↦ ap come (f i (omega (arith, l, q))) ∙ g i (omega (arith, l, q)) ];
+      goes = λ b i l w. elim w [ inl p ↦ absurd (no i b p) | inr q ↦ inr (ap go q ∙ f b l) ];
+      back = λ b i l w. elim w [ inl p ↦ absurd (no i b p) | inr q ↦ ap come (ap go q ∙ f b l) ∙ g b l ∙ sym q ];
     }

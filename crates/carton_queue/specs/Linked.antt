@@ -1,7 +1,7 @@
 -- How nodes are linked. The first slots are the nodes; after them each bucket has one slot, which is always in its ring.
 use Rattle.std.specs.Prelude.{◌≡◌, ℕ, zero, suc, ◌+◌, ◌<◌, ◌≤◌, ◌^◌, List, [], ◌∷◌, Option, Some, None, length, ◌⊎◌}
 use Rattle.carton_queue.specs.Waits.{priority_at}
-use Rattle.carton_queue.specs.declared.rings.Link.{Link}
+use Rattle.carton_queue.specs.declared.links.Link.{Link}
 
 -- the slot after slot i in its ring
 abbrev pub next_of : List Link → ℕ → ℕ

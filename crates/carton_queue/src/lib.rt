@@ -2,6 +2,8 @@
 #![tactic(auto)]
 
 mod calls;
+mod entries;
+mod links;
 mod queue;
 mod rings;
 

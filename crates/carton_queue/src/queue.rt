@@ -19,11 +19,11 @@ impl Model for BucketQueue {
 
     ghost Value = { Waiting };
 
-    ghost view = { λ q. record { priorities = q.rings.priorities.items; buckets = q.rings.buckets } };
+    ghost view = { λ q. record { priorities = q.rings.priorities; buckets = q.rings.buckets } };
 
     ghost use Rattle.carton_queue.specs.Linked.{IsKept};
 
-    ghost invariant = { λ q. IsKept q.rings.priorities.items q.rings.links.items q.rings.buckets q.least };
+    ghost invariant = { λ q. IsKept q.rings.priorities q.rings.links q.rings.buckets q.least };
 }
 
 impl BucketQueue {
@@ -59,7 +59,7 @@ impl BucketQueue {
         if node as usize >= self.rings.priorities.len() {
             return None;
         }
-        self.rings.priorities[node as usize]
+        self.rings.priorities.get(node as usize)
     }
 
     /// Adds a node.
@@ -103,7 +103,7 @@ impl BucketQueue {
         ensures result { result ≡ priority_of self.old node }
         ensures rest { self.new ≡ with_entry self.old node None }
     {
-        let Some(priority) = self.rings.priorities[node as usize] else {
+        let Some(priority) = self.priority(node) else {
             return None;
         };
         self.rings.take_out(node);

@@ -2,79 +2,30 @@ ghost use Rattle.std.specs.Prelude.{◌≡◌, ◌+◌, ◌<◌, ◌≤◌, ◌^
 ghost use Rattle.carton_queue.specs.Waits.{priority_at};
 ghost use Rattle.carton_queue.specs.Linked.{next_of, previous_of, IsSet, AreSet, IsLinked, IsFirst};
 
+use crate::entries::Entries;
+use crate::links::{Links, next_at, previous_at, set_next, set_previous};
 use carton_base::OutOfMemory;
 use std::alloc::Global;
-
-// The slots after and before a slot in its ring.
-#[derive(Clone, Copy, Debug, PartialEq, Eq)]
-pub struct Link {
-    pub next: usize,
-    pub previous: usize,
-}
 
 // Each node's priority, and for each bucket a ring of its own slot and of the nodes with that
 // priority. The first slots are the nodes; after them each bucket has one.
 #[derive(Drop)]
 pub struct Rings {
-    pub priorities: Vec<Option<u32>>,
-    pub links: Vec<Link>,
+    pub priorities: Entries<Option<u32>>,
+    pub links: Links,
     pub buckets: u32,
 }
 
-// Sets the slot after a slot.
-fn set_next(links: &mut Vec<Link>, at: usize, to: usize)
-    requires { at < length links.old.items }
-    ensures len { length links.new.items ≡ length links.old.items }
-    ensures next { IsSet (next_of links.old.items) (next_of links.new.items) at to }
-    ensures previous { (i : ℕ) → previous_of links.new.items i ≡ previous_of links.old.items i }
-{
-    let link = links[at];
-    links[at] = Link {
-        next: to,
-        previous: link.previous,
-    };
-}
-
-// Sets the slot before a slot.
-fn set_previous(links: &mut Vec<Link>, at: usize, to: usize)
-    requires { at < length links.old.items }
-    ensures len { length links.new.items ≡ length links.old.items }
-    ensures next { (i : ℕ) → next_of links.new.items i ≡ next_of links.old.items i }
-    ensures previous { IsSet (previous_of links.old.items) (previous_of links.new.items) at to }
-{
-    let link = links[at];
-    links[at] = Link {
-        next: link.next,
-        previous: to,
-    };
-}
-
-// The slot after a slot.
-fn next_at(links: &Vec<Link>, at: usize) -> usize
-    requires { at < length links.now.items }
-    ensures { result ≡ next_of links.now.items at }
-{
-    links[at].next
-}
-
-// The slot before a slot.
-fn previous_at(links: &Vec<Link>, at: usize) -> usize
-    requires { at < length links.now.items }
-    ensures { result ≡ previous_of links.now.items at }
-{
-    links[at].previous
-}
-
 // Puts a slot that is in no ring right after another one.
-fn insert_after(links: &mut Vec<Link>, node: usize, place: usize)
-    requires node { node < length links.old.items }
-    requires place { place < length links.old.items }
-    requires head { next_of links.old.items place < length links.old.items }
+fn insert_after(links: &mut Links, node: usize, place: usize)
+    requires node { node < length links.old }
+    requires place { place < length links.old }
+    requires head { next_of links.old place < length links.old }
     requires apart { node ≡ place → ⊥ }
-    requires apart_head { node ≡ next_of links.old.items place → ⊥ }
-    ensures len { length links.new.items ≡ length links.old.items }
-    ensures next { AreSet (next_of links.old.items) (next_of links.new.items) node (next_of links.old.items place) place node }
-    ensures previous { AreSet (previous_of links.old.items) (previous_of links.new.items) node place (next_of links.old.items place) node }
+    requires apart_head { node ≡ next_of links.old place → ⊥ }
+    ensures len { length links.new ≡ length links.old }
+    ensures next { AreSet (next_of links.old) (next_of links.new) node (next_of links.old place) place node }
+    ensures previous { AreSet (previous_of links.old) (previous_of links.new) node place (next_of links.old place) node }
 {
     let head = next_at(links, place);
     set_next(links, node, head);
@@ -84,13 +35,13 @@ fn insert_after(links: &mut Vec<Link>, node: usize, place: usize)
 }
 
 // Takes a slot out of its ring: its neighbours follow each other.
-fn unlink(links: &mut Vec<Link>, node: usize)
-    requires node { node < length links.old.items }
-    requires next { next_of links.old.items node < length links.old.items }
-    requires previous { previous_of links.old.items node < length links.old.items }
-    ensures len { length links.new.items ≡ length links.old.items }
-    ensures next { IsSet (next_of links.old.items) (next_of links.new.items) (previous_of links.old.items node) (next_of links.old.items node) }
-    ensures previous { IsSet (previous_of links.old.items) (previous_of links.new.items) (next_of links.old.items node) (previous_of links.old.items node) }
+fn unlink(links: &mut Links, node: usize)
+    requires node { node < length links.old }
+    requires next { next_of links.old node < length links.old }
+    requires previous { previous_of links.old node < length links.old }
+    ensures len { length links.new ≡ length links.old }
+    ensures next { IsSet (next_of links.old) (next_of links.new) (previous_of links.old node) (next_of links.old node) }
+    ensures previous { IsSet (previous_of links.old) (previous_of links.new) (next_of links.old node) (previous_of links.old node) }
 {
     let next = next_at(links, node);
     let previous = previous_at(links, node);
@@ -99,24 +50,15 @@ fn unlink(links: &mut Vec<Link>, node: usize)
 }
 
 impl Rings {
-    // Rings with no node: each slot follows itself.
+    // Rings with no node.
     pub fn with_room(alloc: Global, nodes: u32, buckets: u32) -> Result<Rings, OutOfMemory>
-        ensures linked { IfOk result (λ r. IsLinked r.priorities.items r.links.items r.buckets) }
-        ensures empty { IfOk result (λ r. (n : ℕ) → priority_at r.priorities.items n ≡ None) }
-        ensures nodes { IfOk result (λ r. length r.priorities.items ≡ nodes) }
+        ensures linked { IfOk result (λ r. IsLinked r.priorities r.links r.buckets) }
+        ensures empty { IfOk result (λ r. (n : ℕ) → priority_at r.priorities n ≡ None) }
+        ensures nodes { IfOk result (λ r. length r.priorities ≡ nodes) }
         ensures buckets { IfOk result (λ r. r.buckets ≡ buckets) }
     {
-        let mut priorities = Vec::new(alloc);
-        for _ in 0..nodes {
-            priorities.push(None)?;
-        }
-        let mut links = Vec::new(alloc);
-        for i in 0..nodes as usize + buckets as usize {
-            links.push(Link {
-                next: i,
-                previous: i,
-            })?;
-        }
+        let priorities = Entries::with_room(alloc, nodes as usize, None)?;
+        let links = Links::with_room(alloc, nodes, buckets)?;
         Ok(Rings {
             priorities,
             links,
@@ -126,41 +68,41 @@ impl Rings {
 
     // Puts a node into the ring of its priority.
     pub fn add(&mut self, node: u32, priority: u32)
-        requires linked { IsLinked self.old.priorities.items self.old.links.items self.old.buckets }
-        requires node { node < length self.old.priorities.items }
-        requires short { length self.old.priorities.items < 2 ^ 32 }
+        requires linked { IsLinked self.old.priorities self.old.links self.old.buckets }
+        requires node { node < length self.old.priorities }
+        requires short { length self.old.priorities < 2 ^ 32 }
         requires priority { priority < self.old.buckets }
-        requires absent { priority_at self.old.priorities.items node ≡ None }
-        ensures priorities { self.new.priorities.items ≡ slice_set self.old.priorities.items node (Some priority) }
+        requires absent { priority_at self.old.priorities node ≡ None }
+        ensures priorities { self.new.priorities ≡ slice_set self.old.priorities node (Some priority) }
         ensures buckets { self.new.buckets ≡ self.old.buckets }
-        ensures linked { IsLinked self.new.priorities.items self.new.links.items self.new.buckets }
+        ensures linked { IsLinked self.new.priorities self.new.links self.new.buckets }
     {
         let place = self.priorities.len() + priority as usize;
         insert_after(&mut self.links, node as usize, place);
-        self.priorities[node as usize] = Some(priority);
+        self.priorities.set(node as usize, Some(priority));
     }
 
     // Takes a node out of its ring.
     pub fn take_out(&mut self, node: u32)
-        requires linked { IsLinked self.old.priorities.items self.old.links.items self.old.buckets }
-        requires present { (p : ℕ) × (priority_at self.old.priorities.items node ≡ Some p) }
-        ensures priorities { self.new.priorities.items ≡ slice_set self.old.priorities.items node None }
+        requires linked { IsLinked self.old.priorities self.old.links self.old.buckets }
+        requires present { (p : ℕ) × (priority_at self.old.priorities node ≡ Some p) }
+        ensures priorities { self.new.priorities ≡ slice_set self.old.priorities node None }
         ensures buckets { self.new.buckets ≡ self.old.buckets }
-        ensures linked { IsLinked self.new.priorities.items self.new.links.items self.new.buckets }
+        ensures linked { IsLinked self.new.priorities self.new.links self.new.buckets }
     {
         unlink(&mut self.links, node as usize);
-        self.priorities[node as usize] = None;
+        self.priorities.set(node as usize, None);
     }
 
     // Moves a node into the ring of another priority.
     pub fn move_to(&mut self, node: u32, priority: u32)
-        requires linked { IsLinked self.old.priorities.items self.old.links.items self.old.buckets }
-        requires present { (p : ℕ) × (priority_at self.old.priorities.items node ≡ Some p) }
-        requires short { length self.old.priorities.items < 2 ^ 32 }
+        requires linked { IsLinked self.old.priorities self.old.links self.old.buckets }
+        requires present { (p : ℕ) × (priority_at self.old.priorities node ≡ Some p) }
+        requires short { length self.old.priorities < 2 ^ 32 }
         requires priority { priority < self.old.buckets }
-        ensures priorities { self.new.priorities.items ≡ slice_set self.old.priorities.items node (Some priority) }
+        ensures priorities { self.new.priorities ≡ slice_set self.old.priorities node (Some priority) }
         ensures buckets { self.new.buckets ≡ self.old.buckets }
-        ensures linked { IsLinked self.new.priorities.items self.new.links.items self.new.buckets }
+        ensures linked { IsLinked self.new.priorities self.new.links self.new.buckets }
     {
         self.take_out(node);
         self.add(node, priority);
@@ -168,10 +110,10 @@ impl Rings {
 
     // A node with least priority, and that priority. The search begins at a bucket.
     pub fn first_from(&self, from: u32) -> Option<(u32, u32)>
-        requires linked { IsLinked self.now.priorities.items self.now.links.items self.now.buckets }
-        requires short { length self.now.priorities.items < 2 ^ 32 }
-        requires least { (n p : ℕ) → priority_at self.now.priorities.items n ≡ Some p → from ≤ p }
-        ensures { IsFirst self.now.priorities.items result }
+        requires linked { IsLinked self.now.priorities self.now.links self.now.buckets }
+        requires short { length self.now.priorities < 2 ^ 32 }
+        requires least { (n p : ℕ) → priority_at self.now.priorities n ≡ Some p → from ≤ p }
+        ensures { IsFirst self.now.priorities result }
     {
         for bucket in from..self.buckets {
             let place = self.priorities.len() + bucket as usize;
