@@ -107,7 +107,8 @@ fn find_again<J: Judge>(
     known.lower(number, old.moves + left, entry.moves + left);
 }
 
-// Tries a step of a turn.
+// Tries a step of a turn. The last team is tried first and each team's way back before its way
+// forward: of states with one priority the queue gives the newest, so the teams go on in their order.
 fn try_step<J: Judge>(
     known: &mut Known,
     task: &Task,
@@ -121,8 +122,8 @@ fn try_step<J: Judge>(
     ensures carton { J.carton judge.new ≡ J.carton judge.old }
     ensures slack { J.slack judge.new ≡ J.slack judge.old }
 {
-    let team = turn.step / 2;
-    let Some(to) = next_state(task, &turn.entry.state, team, turn.step % 2 == 0) else {
+    let team = task.teams.len() as u8 - 1 - turn.step / 2;
+    let Some(to) = next_state(task, &turn.entry.state, team, turn.step % 2 == 1) else {
         return Ok(());
     };
     match known.number_of(&to) {

@@ -1,5 +1,5 @@
 -- Grid steps of teams: each member goes towards where it is to be, by at most the stride.
-use Rattle.std.specs.Prelude.{◌≡◌, ℕ, ◌/◌, ◌%◌, ◌<◌, ◌==◌, ℤ, pos, ◌+ℤ◌, ◌-ℤ◌, neg_ℤ, Bool, not, if◌then◌else◌, List, [], length, map, slice_get, Option, Some, None, option_map, unwrap_or}
+use Rattle.std.specs.Prelude.{◌≡◌, ℕ, ◌-◌, ◌/◌, ◌%◌, ◌<◌, ◌==◌, ℤ, pos, ◌+ℤ◌, ◌-ℤ◌, neg_ℤ, Bool, not, if◌then◌else◌, List, [], length, map, slice_get, Option, Some, None, option_map, unwrap_or}
 use Rattle.std.specs.Int.{int_min, int_max}
 use Rattle.std.specs.List.{list_any, range_with_len}
 use Rattle.std.specs.Ordering.{int_eq}
@@ -55,9 +55,9 @@ pub record IsGridStep (t : Task) (a b : State) : Type 0 where
   pub known : team < length t.teams
   pub leads : next_of t a team forward ≡ Some b
 
--- the grid steps counted by one number: two of each team, the first forward and the second back
+-- the grid steps counted by one number: two of each team, from the last team to the first, of each the one back and then the one forward
 abbrev pub step_of : Task → State → ℕ → Option State
-step_of t at k = next_of t at (k / 2) (k % 2 == 0)
+step_of t at k = next_of t at (length t.teams - 1 - k / 2) (k % 2 == 1)
 
 -- a state of the task's joints, on its grid
 pub record IsStateOf (t : Task) (s : State) : Type 0 where
