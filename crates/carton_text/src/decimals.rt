@@ -1,4 +1,4 @@
-ghost use Rattle.std.specs.Prelude.{◌≡◌, ◌+◌, ◌-◌, ◌*◌, ◌^◌, ◌<◌, ◌≤◌, min, length, map, true, unsigned_abs, nat_lt, int_lt};
+ghost use Rattle.std.specs.Prelude.{◌≡◌, ◌+◌, ◌-◌, ◌*◌, ◌^◌, ◌<◌, ◌≤◌, min, length, map, pos, true, unsigned_abs, nat_lt, int_lt};
 ghost use Rattle.std.specs.Char.{is_ascii_digit};
 ghost use Rattle.std.specs.List.{list_all};
 ghost use Rattle.std.specs.Str.Parse.{digits_value};
@@ -116,6 +116,13 @@ impl<'a> Numeral<'a> {
             (true, false) => true,
             (true, true) => is_lower(other.digits, self.digits),
         }
+    }
+
+    /// Whether the number is greater than this one.
+    pub fn is_above(&self, bound: u32) -> bool
+        ensures { result ≡ int_lt (pos bound) self.now }
+    {
+        !self.negative && self.size() > u64::from(bound)
     }
 
     /// The number where it lies from `low` to `high`, and else a fault of range.

@@ -28,6 +28,7 @@ mod task;
 mod teams;
 mod telling;
 
+pub use carton_made::{made_dieline, made_job};
 pub use carton_task::job_for;
 pub use cutting::{after, is_passed_over, words};
 pub use decimals::{Numeral, number_at, number_of, numbers};
@@ -40,4 +41,5 @@ pub use plan::Plan;
 pub use plan_text::read_plan;
 pub use plan_writing::write_plan;
 pub use pose::pose_text;
+pub use strict_lines::{numbers_after, whole};
 pub use task::{Task, Team};

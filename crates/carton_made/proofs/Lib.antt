@@ -1,0 +1,5 @@
+pub mod Entries
+pub mod Small
+pub mod RowLists
+pub mod TrayLists
+pub mod Whole

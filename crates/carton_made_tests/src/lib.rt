@@ -1,0 +1,5 @@
+//! The dielines and jobs that are made from a number, as tests.
+#![tactic(auto)]
+
+#[cfg(test)]
+mod made;
