@@ -1,0 +1,10 @@
+//! How far the panels of a carton stay parted in each move of a plan.
+#![tactic(auto)]
+
+mod cleared;
+mod narrowing;
+mod reporting;
+mod tightest;
+
+pub use cleared::{Cleared, Row, WIDE_CLEARANCE};
+pub use reporting::clearances;

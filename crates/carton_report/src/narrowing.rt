@@ -1,0 +1,102 @@
+ghost use Rattle.std.specs.Prelude.{◌≡◌, ◌<◌, ◌≤◌, length, pos, IfSome, None};
+ghost use Rattle.carton_base.specs.declared.limits.TheConstants.{MOST_JOINTS};
+ghost use Rattle.carton_model.specs.Moves.{IsMotion};
+ghost use Rattle.carton_part.specs.Answers.{AreUnparted, IsPartingOf, StayParted};
+ghost use Rattle.carton_report.specs.declared.cleared.TheConstants.{WIDE_CLEARANCE};
+ghost use Rattle.carton_report.specs.Tightest.{IsNearOf, StayClear};
+
+use carton_base::{Moment, Motion, PanelId};
+use carton_fix::Fix;
+use carton_part::{Parting, part_over};
+use carton_tree::Carton;
+
+/// How near two panels come in a move, in dieline units: they stay parted by more than clear - 1, and
+/// at this moment they aren't parted by more than clear + slack/2.
+#[derive(Clone, Copy)]
+pub struct Near {
+    pub clear: u16,
+    pub moment: Moment,
+}
+
+// What is known of two panels at a gap of so many units.
+fn parting(
+    carton: &Carton,
+    motion: &Motion,
+    a: PanelId,
+    b: PanelId,
+    gap: u16,
+    slack: u16,
+) -> Parting
+    requires a { a.0 < length carton.now.panels }
+    requires b { b.0 < length carton.now.panels }
+    requires motion { IsMotion MOST_JOINTS motion.now }
+    requires gap { gap < WIDE_CLEARANCE }
+    requires slack { (1 ≤ slack) × (slack ≤ 1000) }
+    ensures { IsPartingOf carton.now motion.now a.0 b.0 (pos gap) slack result }
+{
+    part_over::<Fix>(carton, motion, a, b, i64::from(gap), slack)
+}
+
+// How near two panels come that aren't parted by more than first.clear + slack/2 at its moment. The
+// moment that was told of a gap is kept with it, since a second answer may tell another.
+fn narrowed(
+    carton: &Carton,
+    motion: &Motion,
+    a: PanelId,
+    b: PanelId,
+    slack: u16,
+    first: Near,
+) -> Near
+    requires a { a.0 < length carton.now.panels }
+    requires b { b.0 < length carton.now.panels }
+    requires motion { IsMotion MOST_JOINTS motion.now }
+    requires slack { (1 ≤ slack) × (slack ≤ 1000) }
+    requires apart { StayParted carton.now motion.now a.0 b.0 (pos 0) }
+    requires narrow { first.clear < WIDE_CLEARANCE }
+    requires first { AreUnparted carton.now motion.now a.0 b.0 (pos first.clear) slack first.moment }
+    ensures near { IsNearOf carton.now motion.now a.0 b.0 slack result }
+    ensures less { result.clear ≤ first.clear }
+{
+    let mut certified = 0;
+    let mut near = first;
+    while certified < near.clear {
+        let clear = certified + (near.clear - certified) / 2;
+        match parting(carton, motion, a, b, clear, slack) {
+            Parting::Parted => certified = clear + 1,
+            Parting::Undecided(moment) => near = Near { clear, moment },
+        }
+    }
+    near
+}
+
+/// How near two panels come, where it isn't certain that they stay parted by more than clear - 1.
+pub fn nearer(
+    carton: &Carton,
+    motion: &Motion,
+    a: PanelId,
+    b: PanelId,
+    slack: u16,
+    clear: u16,
+) -> Option<Near>
+    requires a { a.0 < length carton.now.panels }
+    requires b { b.0 < length carton.now.panels }
+    requires motion { IsMotion MOST_JOINTS motion.now }
+    requires slack { (1 ≤ slack) × (slack ≤ 1000) }
+    requires apart { StayParted carton.now motion.now a.0 b.0 (pos 0) }
+    requires clear { clear ≤ WIDE_CLEARANCE }
+    ensures near { IfSome result (IsNearOf carton.now motion.now a.0 b.0 slack) }
+    ensures less { IfSome result (λ n. n.clear < clear) }
+    ensures none { result ≡ None → StayClear carton.now motion.now a.0 b.0 clear }
+{
+    if clear == 0 {
+        return None;
+    }
+    let clear = clear - 1;
+    match parting(carton, motion, a, b, clear, slack) {
+        Parting::Parted => None,
+        Parting::Undecided(moment) => {
+            let first = Near { clear, moment };
+            Some(narrowed(carton, motion, a, b, slack, first))
+        }
+    }
+}

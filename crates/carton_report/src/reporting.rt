@@ -1,0 +1,101 @@
+ghost use Rattle.std.specs.Prelude.{◌≡◌, ℕ, ◌+◌, ◌<◌, ◌≤◌, List, length, pos, ◌*ℤ◌, IfOk};
+ghost use Rattle.carton_base.specs.declared.limits.TheConstants.{MOST_JOINTS, WIDEST_SLACK};
+ghost use Rattle.carton_model.specs.Moves.{IsMotion};
+ghost use Rattle.carton_text.specs.PlanRules.{IsPlan};
+ghost use Rattle.carton_text.specs.TaskRules.{IsTask};
+ghost use Rattle.carton_check.specs.Checks.{HasMoves};
+ghost use Rattle.carton_check.specs.Sound.{IsMove, IsSound, KeepsApart};
+ghost use Rattle.carton_check.specs.Steps.{AreMoves};
+ghost use Rattle.carton_report.specs.Clearances.{AreRows, IsCleared, IsRow, IsRowsOrMemory};
+
+use crate::cleared::{Cleared, Row};
+use crate::tightest::{Tight, tightest};
+use carton_base::{Listed, Motion, OutOfMemory, State};
+use carton_check::{Checked, check};
+use carton_text::{Plan, Task};
+use carton_tree::Carton;
+use std::alloc::Global;
+
+// Move i of the states.
+fn move_at(states: &[State], i: usize) -> Motion
+    requires moves { AreMoves states.now }
+    requires inside { i + 1 < length states.now }
+    ensures is { IsMove states.now i result.from result.to }
+    ensures motion { IsMotion MOST_JOINTS result }
+{
+    Motion {
+        from: states[i],
+        to: states[i + 1],
+    }
+}
+
+// The row of move i, in which all panels keep apart.
+fn row_at(carton: &Carton, slack: u16, states: &[State], i: usize) -> Row
+    requires moves { AreMoves states.now }
+    requires inside { i + 1 < length states.now }
+    requires some { 1 ≤ slack }
+    requires narrow { slack ≤ WIDEST_SLACK }
+    requires apart { KeepsApart carton.now states.now (pos 0) }
+    ensures { IsRow carton.now slack states.now i result }
+{
+    let step = i as u32;
+    let motion = move_at(states, i);
+    match tightest(carton, &motion, slack) {
+        Some(
+            Tight {
+                clear,
+                a,
+                b,
+                moment,
+            },
+        ) => Row::Tight {
+            step,
+            clear,
+            a,
+            b,
+            moment,
+        },
+        None => Row::Wide { step },
+    }
+}
+
+// The rows of all moves, in order.
+fn rows(
+    alloc: Global,
+    carton: &Carton,
+    slack: u16,
+    states: &[State],
+) -> Result<Listed<Row>, OutOfMemory>
+    requires moves { AreMoves states.now }
+    requires some_state { 1 ≤ length states.now }
+    requires some { 1 ≤ slack }
+    requires narrow { slack ≤ WIDEST_SLACK }
+    requires apart { KeepsApart carton.now states.now (pos 0) }
+    ensures count { IfOk result (λ rows. length rows + 1 ≡ length states.now) }
+    ensures each { IfOk result (AreRows carton.now slack states.now) }
+{
+    let mut rows = Listed::new(alloc);
+    for i in 0..states.len() - 1 {
+        rows.push(row_at(carton, slack, states, i))?;
+    }
+    Ok(rows)
+}
+
+/// How far panels that share no crease stay parted in each move of a plan, where its check says that
+/// it holds. The plan is judged once.
+pub fn clearances(alloc: Global, carton: &Carton, task: &Task, plan: &Plan) -> Cleared
+    requires task { IsTask task.now }
+    requires plan { IsPlan plan.now }
+    ensures cleared { IsCleared carton.now task.now plan.now result }
+    ensures sound { (rows : List Row) → result ≡ Cleared.Rows rows → IsSound carton.now task.now plan.now }
+    ensures slack_clear { HasMoves task.now plan.now → KeepsApart carton.now plan.now.states (pos 2 *ℤ pos task.now.slack) → IsRowsOrMemory result }
+{
+    let answer = check(carton, task, plan);
+    let Checked::Holds(_) = answer else {
+        return Cleared::Fails(answer);
+    };
+    match rows(alloc, carton, task.slack, plan.states.as_slice()) {
+        Ok(rows) => Cleared::Rows(rows),
+        Err(_) => Cleared::Memory,
+    }
+}
