@@ -1,0 +1,5 @@
+pub mod CatalogueLines
+pub mod Catalogues
+pub mod CatalogueRules
+pub mod Fits
+pub mod FitSteps

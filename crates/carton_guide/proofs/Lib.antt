@@ -1,0 +1,12 @@
+pub mod Numbers
+pub mod Shifts
+pub mod Spots
+pub mod Depths
+pub mod Looks
+pub mod Flaps
+pub mod Fitting
+pub mod Probes
+pub mod WellHeld
+pub mod World
+pub mod Near
+pub mod Banded

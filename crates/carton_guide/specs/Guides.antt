@@ -1,0 +1,44 @@
+-- Guides of a carton: the flap that a guide is for, and when a guide fits a plan.
+use Rattle.std.specs.Prelude.{◌≡◌, ℕ, ◌+◌, ◌<◌, ◌≤◌, List, length, slice_get, All, Some, IsSomeAnd, pos}
+use Rattle.carton_base.specs.declared.bodies.Guide.{Guide}
+use Rattle.carton_base.specs.declared.dieline.Point.{Point}
+use Rattle.carton_base.specs.declared.motion.State.{State}
+use Rattle.carton_model.specs.Moves.{IsStop, stop_of}
+use Rattle.carton_panels.specs.Shrinking.{InShrunk}
+use Rattle.carton_reach.specs.Spots.{shape_at}
+use Rattle.carton_tree.specs.Trees.{Tree, IsChild, joint_of}
+use Rattle.carton_guide.specs.declared.note.End.{End}
+use Rattle.carton_guide.specs.Bands.{band_stops, shifted}
+
+-- panel `flap` hangs by the edge, and this joint is the free one at the place of the states
+pub record IsFlap (t : Tree) (edge flap place : ℕ) : Type 0 where
+  pub child : IsChild t.joints edge (Some (record { 0 = flap }))
+  pub free : IsSomeAnd (joint_of t.joints flap) (λ j. j.turn.place ≡ Some place)
+
+-- move i is one of the guide's window
+pub record InWindow (g : Guide) (i : ℕ) : Type 0 where
+  pub from : g.first ≤ i
+  pub upto : i ≤ g.last
+
+-- at both ends of the band the stop of the joint at the place is a stop
+abbrev pub HasBandAt : ℕ → ℕ → State → Type 0
+HasBandAt band place s = (end : End) → IsStop s.grid (shifted end (band_stops s.grid band) (stop_of s place))
+
+-- so they are at each state of the guide's moves
+abbrev pub StaysInBand : List State → Guide → ℕ → Type 0
+StaysInBand states g place = (i : ℕ) (s : State) → g.first ≤ i → i ≤ g.last + 1 → slice_get states i ≡ Some s → HasBandAt g.band place s
+
+-- the flat point lies in the shrunk panel
+abbrev pub IsOnPanel : Tree → ℕ → Point → Type 0
+IsOnPanel t panel p = InShrunk (shape_at t panel).margin (shape_at t panel).places p.x p.y (pos 1)
+
+-- the guide fits a carton and the states of its plan: its edge is a free joint, its moves are moves of the plan, at the states of
+-- these its band stays within two right angles either way, and its probes lie in the shrunk flap
+pub record IsFitting (t : Tree) (states : List State) (g : Guide) : Type 0 where
+  pub flap : ℕ
+  pub place : ℕ
+  pub is_flap : IsFlap t g.edge.0 flap place
+  pub ordered : g.first ≤ g.last
+  pub moves : g.last + 1 < length states
+  pub band : StaysInBand states g place
+  pub probes : All (IsOnPanel t flap) g.probes

@@ -1,0 +1,111 @@
+ghost use Rattle.std.specs.Prelude.{◌≡◌, ℕ, ◌<◌, ◌≤◌, ◌^◌, ◌*◌, length, ℤ, pos, ◌+ℤ◌, ◌-ℤ◌, ◌*ℤ◌, ◌≤ℤ◌, unsigned_abs};
+ghost use Rattle.std.specs.Int.{int_min};
+ghost use Rattle.carton_base.specs.Rounding.{IsBetween};
+ghost use Rattle.carton_base.specs.declared.limits.TheConstants.{MOST_STATES};
+ghost use Rattle.carton_bodies.specs.Boxes.{IsStroke};
+ghost use Rattle.carton_enclose.specs.Held.{size_of};
+ghost use Rattle.carton_model.specs.Parting.{Position, along as along_normal};
+ghost use Rattle.carton_guide.specs.Depths.{IsDepthAt, IsDepthIn};
+ghost use Rattle.carton_guide.specs.Faces.{side_of, sides_of};
+ghost use Rattle.carton_guide.specs.Spots.{IsAt, IsSmall, IsNarrow};
+
+use crate::face::Face;
+use crate::shift::{rate_along, shift_over};
+use crate::spot::Spot;
+use carton_base::{Bounds, Piece, UNIT, difference, product, sum};
+
+// c times x, a number of units.
+fn times(c: i8, x: i128) -> i128
+    requires { unsigned_abs x ≤ 2 ^ 63 }
+    ensures value { result ≡ c *ℤ x }
+    ensures size { unsigned_abs result ≤ 2 ^ 70 }
+{
+    product::<7, 63>(i128::from(c), x)
+}
+
+// c times a number within the bounds.
+fn scaled(c: i8, all: Bounds) -> Bounds
+    requires { size_of all.lo all.hi ≤ 2 ^ 63 }
+    ensures holds { (x : ℤ) (v : ℕ) → IsBetween all.lo all.hi x v → IsBetween result.lo result.hi (c *ℤ x) v }
+    ensures size { size_of result.lo result.hi ≤ 2 ^ 70 }
+    ensures close { (result.hi -ℤ result.lo) ≤ℤ (pos 128 *ℤ (all.hi -ℤ all.lo)) }
+{
+    let low = times(c, all.lo);
+    let high = times(c, all.hi);
+    if c < 0 {
+        return Bounds { lo: high, hi: low };
+    }
+    Bounds { lo: low, hi: high }
+}
+
+// A number within the first bounds and one within the second, added.
+fn added(a: Bounds, b: Bounds) -> Bounds
+    requires first { size_of a.lo a.hi ≤ 2 ^ 72 }
+    requires second { size_of b.lo b.hi ≤ 2 ^ 72 }
+    ensures low { result.lo ≡ a.lo +ℤ b.lo }
+    ensures high { result.hi ≡ a.hi +ℤ b.hi }
+{
+    Bounds {
+        lo: a.lo + b.lo,
+        hi: a.hi + b.hi,
+    }
+}
+
+// How far the spot lies along the normal of the half-space.
+fn along(face: &Face, spot: &Spot) -> Bounds
+    requires { IsSmall spot.now }
+    ensures holds { (q : Position) → IsAt spot.now q → IsBetween result.lo result.hi (along_normal face.now.u face.now.v face.now.s q) (unsigned_abs q.w) }
+    ensures size { size_of result.lo result.hi ≤ 2 ^ 72 }
+    ensures close { IsNarrow spot.now → result.hi ≤ℤ (result.lo +ℤ pos (6912 * 2 ^ 27)) }
+{
+    let x = scaled(face.u, spot.x);
+    let y = scaled(face.v, spot.y);
+    let z = scaled(face.s, spot.z);
+    added(added(x, y), z)
+}
+
+// How deep the spot lies in the half-space over the piece of this move.
+fn depth_at(face: &Face, stroke: [i32; 3], step: u32, piece: Piece, spot: &Spot) -> Bounds
+    requires stroke { IsStroke stroke }
+    requires step { step < MOST_STATES }
+    requires small { IsSmall spot.now }
+    ensures { IsDepthAt (side_of face.now) stroke step spot.now piece.index piece.depth result }
+{
+    let shift = shift_over(rate_along(stroke, face), step, piece);
+    let place = along(face, spot);
+    let offset = product::<31, 40>(i128::from(face.offset), UNIT);
+    Bounds {
+        lo: difference::<117>(sum::<116>(offset, shift.lo), place.hi),
+        hi: difference::<117>(sum::<116>(offset, shift.hi), place.lo),
+    }
+}
+
+// The lesser of two depths.
+fn lesser(a: Bounds, b: Bounds) -> Bounds
+    ensures low { result.lo ≡ int_min a.lo b.lo }
+    ensures high { result.hi ≡ int_min a.hi b.hi }
+{
+    Bounds {
+        lo: a.lo.min(b.lo),
+        hi: a.hi.min(b.hi),
+    }
+}
+
+/// How deep the spot lies in the body of these faces over the piece of this move: at all of them, or,
+/// where it lies outside throughout, at the first ones that tell so.
+pub fn depth_in(faces: &[Face], stroke: [i32; 3], step: u32, piece: Piece, spot: &Spot) -> Bounds
+    requires some { 0 < length faces.now }
+    requires stroke { IsStroke stroke }
+    requires step { step < MOST_STATES }
+    requires small { IsSmall spot.now }
+    ensures { IsDepthIn (sides_of faces.now) stroke step spot.now piece.index piece.depth result }
+{
+    let mut least = depth_at(&faces[0], stroke, step, piece, spot);
+    for k in 1..faces.len() {
+        if least.hi < 0 {
+            return least;
+        }
+        least = lesser(least, depth_at(&faces[k], stroke, step, piece, spot));
+    }
+    least
+}

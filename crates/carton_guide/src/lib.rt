@@ -1,0 +1,15 @@
+//! Whether the flap of a guide is held by bodies in motion, at both ends of its band, two-sided.
+#![tactic(auto)]
+
+mod bands;
+mod depth;
+mod face;
+mod holding;
+mod looking;
+mod note;
+mod shift;
+mod spot;
+mod watching;
+
+pub use holding::held;
+pub use note::{End, GuideNote};

@@ -1,0 +1,5 @@
+pub mod Clear
+pub mod Notes
+pub mod Spans
+pub mod Extents
+pub mod Steps

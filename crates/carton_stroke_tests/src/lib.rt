@@ -1,0 +1,5 @@
+//! What is told of moving bodies, by tests.
+#![tactic(auto)]
+
+#[cfg(test)]
+mod notes;
