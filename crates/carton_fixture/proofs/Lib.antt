@@ -1,0 +1,12 @@
+pub mod Among
+pub mod Writes
+pub mod Chosen
+pub mod Tried
+pub mod Made
+pub mod Ready
+pub mod SlackGood
+pub mod Compared
+pub mod Loops
+pub mod Few
+pub mod Noted
+pub mod Good

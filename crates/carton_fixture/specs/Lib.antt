@@ -1,0 +1,5 @@
+pub mod Choices
+pub mod Fixtures
+pub mod Answers
+pub mod SlackGood
+pub mod Steps

@@ -1,0 +1,4 @@
+pub mod FixtureEntries
+pub mod FixturesRead
+pub mod FixturesWritten
+pub mod OneSpelling

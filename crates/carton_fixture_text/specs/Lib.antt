@@ -1,0 +1,2 @@
+pub mod FixtureRules
+pub mod FixtureTexts

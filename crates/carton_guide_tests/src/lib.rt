@@ -1,0 +1,5 @@
+//! What is told of guides, by tests.
+#![tactic(auto)]
+
+#[cfg(test)]
+mod notes;
