@@ -4,8 +4,14 @@
 #[cfg(test)]
 mod checks;
 #[cfg(test)]
+mod clearances;
+#[cfg(test)]
 mod ends;
 #[cfg(test)]
 mod faulty_ends;
+#[cfg(test)]
+mod makes;
+#[cfg(test)]
+mod plans;
 #[cfg(test)]
 mod poses;

@@ -12,7 +12,8 @@ pub const FLAP: &[u8] =
 /// Folds the right panel up.
 pub const UP: &[u8] = b"carton job 1\nmargin 4\ntarget 6 8\nend\n";
 
-const HALF: &[u8] = b"carton job 1\nmargin 4\nstart 6 4\ntarget 6 4\nend\n";
+/// The right panel stands half up, and stays.
+pub const HALF: &[u8] = b"carton job 1\nmargin 4\nstart 6 4\ntarget 6 4\nend\n";
 
 const LEFT: &[u8] = b"carton job 1\nroot 1\nmargin 4\nstart 6 -4\ntarget 6 -4\nend\n";
 

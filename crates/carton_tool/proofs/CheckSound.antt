@@ -1,6 +1,5 @@
--- Of a check, done is told only of a sound plan.
-use Rattle.std.proofs.Common.{◌≡◌, ℕ, List, [], ◌∷◌, inl, inr, refl, sym, ◌∙◌, ap, subst, Result, Ok, Err, Option, Some, None}
-use Rattle.std.specs.Prelude.{IfSome, MatchOption}
+-- A check is done, and a report is made, only of a sound plan.
+use Rattle.std.proofs.Common.{◌≡◌, ℕ, List, refl, sym, ◌∙◌, ap, subst, Result, Ok, Err}
 use Rattle.carton_check.specs.declared.checked.Checked.{Checked}
 use Rattle.carton_check.specs.declared.checked.Checked.TheVariants.{WrongCreases, WrongStart, WrongEnd, NotOneStop, Blocked, Holds}
 use Rattle.carton_fold.specs.Dieline.{dieline_of}
@@ -15,27 +14,23 @@ use Rattle.carton_text.specs.declared.fault.LineError.TheVariants.{Memory as NoM
 use Rattle.carton_text.specs.declared.job_error.JobError.TheVariants.{Memory as NoMemoryForTask}
 use Rattle.carton_text.specs.declared.plan.Plan.{Plan}
 use Rattle.carton_tree.specs.declared.error.TreeError.TheVariants.{Memory as NoMemoryForTree}
-use Rattle.carton_tool.specs.Answers.{status_of, answer_of, IsAnswerTo, IsAnswerOf, IsAnswer, AreFiles, IsCheckOfSound}
+use Rattle.carton_tool.specs.Answers.{status_of, answer_of}
 use Rattle.carton_tool.specs.Check.{status_of_checked, IsCheckOf, IsCheck, AreSound, HoldsIfSound}
-use Rattle.carton_tool.specs.Files.{AreTold, first_long, file_at}
+use Rattle.carton_tool.specs.Clearance.{IsClearanceOf, IsClearance}
 use Rattle.carton_tool.specs.Refusals.{After, AfterPlan}
 use Rattle.carton_tool.specs.Setups.{AfterSetup, IsSetup}
-use Rattle.carton_tool.specs.Words.{check, IsCommand, files_of}
-use Rattle.carton_tool.specs.declared.answer.Answer.{Answer}
-use Rattle.carton_tool.specs.declared.answer.Answer.TheVariants.{BadWords, Bad, Check}
+use Rattle.carton_tool.specs.declared.answer.Answer.TheVariants.{Bad, Check, Clearance}
 use Rattle.carton_tool.specs.declared.check.CheckAnswer.{CheckAnswer}
-use Rattle.carton_tool.specs.declared.files.FileKind.{FileKind}
+use Rattle.carton_tool.specs.declared.clearance.ClearanceAnswer.{ClearanceAnswer}
+use Rattle.carton_tool.specs.declared.clearance.ClearanceAnswer.TheVariants.{Rows, Fails}
 use Rattle.carton_tool.specs.declared.refusal.BadFile.{BadFile}
-use Rattle.carton_tool.specs.declared.refusal.Rule.TheVariants.{TooLong}
 use Rattle.carton_tool.specs.declared.setup.Setup.{Setup}
-use Rattle.carton_tool.specs.declared.status.Status.{Status}
-use Rattle.carton_tool.specs.declared.status.Status.TheVariants.{Done, BadInput, BadWords as NoWords}
-use Rattle.carton_tool.proofs.Commands.{one_command}
+use Rattle.carton_tool.specs.declared.status.Status.TheVariants.{Done}
 use Rattle.carton_tool.proofs.Planning.{bad_plan, OfPlan}
 use Rattle.carton_tool.proofs.SettingUp.{Given, not_bad, bad_dieline, bad_job, bad_tree, bad_fit, AfterOne, AfterTwo, AfterAll, OfTree, fits, set_up}
 
 -- a step before an answer had a value
-had : {X E A : Type 0} (memory : E) (bad : E → BadFile) (r : Result X E) (P : X → Result A BadFile → Type 0) (a : A) → After memory bad r P (Ok a) → (x : X) × (r ≡ Ok x) × P x (Ok a)
+pub had : {X E A : Type 0} (memory : E) (bad : E → BadFile) (r : Result X E) (P : X → Result A BadFile → Type 0) (a : A) → After memory bad r P (Ok a) → (x : X) × (r ≡ Ok x) × P x (Ok a)
 had memory bad (Ok x) P a h = (x, refl, h)
 had memory bad (Err e) P a h = absurd (not_bad a (bad e) h.0)
 
@@ -43,7 +38,7 @@ given : {X E : Type 0} (memory : E) (bad : E → BadFile) (r : Result X E) (x : 
 given memory bad r x e = subst (λ z. After memory bad z Given (Ok x)) (sym e) refl
 
 -- setting up had a carton and a task, of which the answer is told
-had_setup : {A : Type 0} (dieline job : List ℕ) (Q : Setup → Result A BadFile → Type 0) (a : A) → AfterSetup dieline job Q (Ok a) → (s : Setup) × IsSetup dieline job (Ok s) × Q s (Ok a)
+pub had_setup : {A : Type 0} (dieline job : List ℕ) (Q : Setup → Result A BadFile → Type 0) (a : A) → AfterSetup dieline job Q (Ok a) → (s : Setup) × IsSetup dieline job (Ok s) × Q s (Ok a)
 had_setup dieline job Q a h =
     let one = had NoMemoryForDieline bad_dieline (dieline_of dieline) (AfterOne Q job) a h in
     let two = had NoMemoryForLine bad_job (job_of job) (AfterTwo Q one.0) a one.2 in
@@ -58,7 +53,7 @@ had_setup dieline job Q a h =
     )
 
 -- and the text had a plan
-had_plan : {A : Type 0} (read : Result PlainPlan LineError) (P : Plan → Result A BadFile → Type 0) (a : A) → AfterPlan read P (Ok a) → (p : Plan) × (read ≡ Ok (plain p)) × P p (Ok a)
+pub had_plan : {A : Type 0} (read : Result PlainPlan LineError) (P : Plan → Result A BadFile → Type 0) (a : A) → AfterPlan read P (Ok a) → (p : Plan) × (read ≡ Ok (plain p)) × P p (Ok a)
 had_plan read P a h =
     let told = had NoMemoryForLine bad_plan read (OfPlan P) a h in
     (told.2.0, told.1 ∙ ap (λ (x : PlainPlan). Ok x) (sym told.2.1), told.2.2)
@@ -79,40 +74,17 @@ held (NotOneStop i) e = absurd (cc)
 held (Blocked i a b m) e = absurd (cc)
 held (Holds moves) e = (moves, refl)
 
-not_done : (file : BadFile) → status_of (Bad file) ≡ Done → ⊥
+pub not_done : (file : BadFile) → status_of (Bad file) ≡ Done → ⊥
 not_done file e = cc
 
-sound_outcome : (dieline job plan : List ℕ) (outcome : Result CheckAnswer BadFile) → IsCheck dieline job plan outcome → status_of (answer_of Check outcome) ≡ Done → AreSound dieline job plan
-sound_outcome dieline job plan (Ok answer) h e = let m = held answer.checked e in holds_sound dieline job plan answer h m.0 m.1
-sound_outcome dieline job plan (Err file) h e = absurd (not_done file e)
+pub sound_check : (dieline job plan : List ℕ) (outcome : Result CheckAnswer BadFile) → IsCheck dieline job plan outcome → status_of (answer_of Check outcome) ≡ Done → AreSound dieline job plan
+sound_check dieline job plan (Ok answer) h e = let m = held answer.checked e in holds_sound dieline job plan answer h m.0 m.1
+sound_check dieline job plan (Err file) h e = absurd (not_done file e)
 
--- of files that are told
-sound_files : (holds : List ℕ → Option (List ℕ)) (dieline job plan d j p : List ℕ) (files : List (List ℕ)) → holds dieline ≡ Some d → holds job ≡ Some j → holds plan ≡ Some p
-    → AreTold holds (files_of (check dieline job plan)) files → AreSound (file_at 0 files) (file_at 1 files) (file_at 2 files) → AreSound d j p
-sound_files holds dieline job plan d j p [] e f g told h = absurd told
-sound_files holds dieline job plan d j p (a ∷ []) e f g told h = absurd told.1
-sound_files holds dieline job plan d j p (a ∷ b ∷ []) e f g told h = absurd told.1.1
-sound_files holds dieline job plan d j p (a ∷ b ∷ c ∷ more ∷ others) e f g told h = absurd told.1.1.1
-sound_files holds dieline job plan d j p (a ∷ b ∷ c ∷ []) e f g told h =
-    let first = subst (λ o. IfSome o (λ bytes. a ≡ bytes)) e told.0 in
-    let second = subst (λ o. IfSome o (λ bytes. b ≡ bytes)) f told.1.0 in
-    let third = subst (λ o. IfSome o (λ bytes. c ≡ bytes)) g told.1.1.0 in
-    subst (λ x. AreSound x j p) first (subst (λ y. AreSound a y p) second (subst (λ z. AreSound a b z) third h))
-
--- of a check's own answer
-sound_answer : (dieline job plan : List ℕ) (files : List (List ℕ)) (answer : Answer) → IsAnswerOf (check dieline job plan) files answer → status_of answer ≡ Done → AreSound (file_at 0 files) (file_at 1 files) (file_at 2 files)
-sound_answer dieline job plan files answer h done = by_length (first_long (files_of (check dieline job plan)) files) h.1
-  where
-    by_length : (o : Option FileKind) → MatchOption o (IsAnswerTo (check dieline job plan) files answer) (λ kind. answer ≡ Bad (record { kind = kind; rule = TooLong })) → AreSound (file_at 0 files) (file_at 1 files) (file_at 2 files)
-    by_length (Some kind) is = absurd (not_done (record { kind = kind; rule = TooLong }) (sym (ap status_of is) ∙ done))
-    by_length None is = sound_outcome (file_at 0 files) (file_at 1 files) (file_at 2 files) is.0 is.1 (sym (ap status_of is.2) ∙ done)
-
--- where done is told of a check, the bytes of its files are those of a sound plan
-pub sound_where_done : (holds : List ℕ → Option (List ℕ)) (had : ℕ) (words files : List (List ℕ)) (answer : Answer) → AreFiles holds had words files → IsAnswer words files answer → status_of answer ≡ Done → IsCheckOfSound holds words
-sound_where_done holds had words files answer are is done = λ dieline job plan d j p command e f g. elim is [
-  | inl none ↦ absurd (none.0 (check dieline job plan) command)
-  | inr found ↦
-      let same = one_command words found.0 (check dieline job plan) found.1 command in
-      let own = subst (λ c. IsAnswerOf c files answer) same found.2 in
-      sound_files holds dieline job plan d j p files e f g (are.told (check dieline job plan) command) (sound_answer dieline job plan files answer own done)
-]
+pub sound_clearance : (dieline job plan : List ℕ) (outcome : Result ClearanceAnswer BadFile) → IsClearance dieline job plan outcome → status_of (answer_of Clearance outcome) ≡ Done → AreSound dieline job plan
+sound_clearance dieline job plan (Ok (Rows rows)) h e =
+    let setup = had_setup dieline job (λ s. AfterPlan (plan_of plan) (IsClearanceOf s)) (Rows rows) h in
+    let p = had_plan (plan_of plan) (IsClearanceOf setup.0) (Rows rows) setup.2 in
+    (setup.0, p.0, setup.1, p.1, p.2.1)
+sound_clearance dieline job plan (Ok (Fails answer)) h e = absurd (cc)
+sound_clearance dieline job plan (Err file) h e = absurd (not_done file e)

@@ -4,8 +4,7 @@ use Rattle.std.specs.Prelude.{codes, if◌then◌else◌}
 use Rattle.std.specs.Str.{bytes_eq}
 use Rattle.std.specs.Str.Parse.{digits_value}
 use Rattle.std.proofs.lemmas.Fmt.{decimal_is_IsNumeral}
-use Rattle.carton_tool.specs.Words.{Command, flat, pose, check, end_word, spelled, AreBounded, IsCommand}
-use Rattle.carton_tool.specs.declared.end.End.{End}
+use Rattle.carton_tool.specs.Words.{Command, flat, pose, plans, check, clearance, make, spelled, AreBounded, IsCommand}
 use Rattle.carton_tool.specs.declared.end.End.TheVariants.{Start, Target}
 
 -- the command of the name `flat` with these further words
@@ -23,6 +22,13 @@ pose_of (dieline ∷ job ∷ []) = None
 pose_of (dieline ∷ job ∷ end ∷ []) = Some (pose dieline job (if bytes_eq end (codes "start") then Start else Target))
 pose_of (dieline ∷ job ∷ end ∷ more ∷ others) = None
 
+-- the command of the name `plan`
+abbrev plan_of : List (List ℕ) → Option Command
+plan_of [] = None
+plan_of (dieline ∷ []) = None
+plan_of (dieline ∷ job ∷ []) = Some (plans dieline job)
+plan_of (dieline ∷ job ∷ more ∷ others) = None
+
 -- the command of the name `check`
 abbrev check_of : List (List ℕ) → Option Command
 check_of [] = None
@@ -31,20 +37,40 @@ check_of (dieline ∷ job ∷ []) = None
 check_of (dieline ∷ job ∷ plan ∷ []) = Some (check dieline job plan)
 check_of (dieline ∷ job ∷ plan ∷ more ∷ others) = None
 
+-- the command of the name `clearance`
+abbrev clearance_of : List (List ℕ) → Option Command
+clearance_of [] = None
+clearance_of (dieline ∷ []) = None
+clearance_of (dieline ∷ job ∷ []) = None
+clearance_of (dieline ∷ job ∷ plan ∷ []) = Some (clearance dieline job plan)
+clearance_of (dieline ∷ job ∷ plan ∷ more ∷ others) = None
+
+-- the command of the name `make`
+abbrev make_of : List (List ℕ) → Option Command
+make_of [] = None
+make_of (count ∷ []) = Some (make (digits_value 10 count))
+make_of (count ∷ more ∷ others) = None
+
 -- the command that words spell, if any
 abbrev command_in : List (List ℕ) → Option Command
 command_in [] = None
 command_in (word ∷ others) =
     if bytes_eq word (codes "flat") then flat_of others else (
     if bytes_eq word (codes "pose") then pose_of others else (
-    if bytes_eq word (codes "check") then check_of others else None))
+    if bytes_eq word (codes "plan") then plan_of others else (
+    if bytes_eq word (codes "check") then check_of others else (
+    if bytes_eq word (codes "clearance") then clearance_of others else (
+    if bytes_eq word (codes "make") then make_of others else None)))))
 
 -- a command is found in its own words
 found : (c : Command) → AreBounded c → command_in (spelled c) ≡ Some c
 found (flat dieline margin) few = ap (λ n. Some (flat dieline n)) (decimal_is_IsNumeral margin (omega (arith, few))).1
 found (pose dieline job Start) few = refl
 found (pose dieline job Target) few = refl
+found (plans dieline job) few = refl
 found (check dieline job plan) few = refl
+found (clearance dieline job plan) few = refl
+found (make count) few = ap (λ n. Some (make n)) (decimal_is_IsNumeral count (omega (arith, few.1))).1
 
 some_is : (c c' : Command) → Some c ≡ Some c' → c ≡ c'
 some_is c c' e = cc

@@ -5,22 +5,28 @@ use Rattle.carton_tool.specs.declared.files.FileKind.{FileKind}
 use Rattle.carton_tool.specs.declared.refusal.BadFile.{BadFile}
 use Rattle.carton_tool.specs.declared.refusal.Rule.TheVariants.{TooLong}
 use Rattle.carton_tool.specs.declared.answer.Answer.{Answer}
-use Rattle.carton_tool.specs.declared.answer.Answer.TheVariants.{BadWords, Bad, Flat, Pose, Check}
+use Rattle.carton_tool.specs.declared.answer.Answer.TheVariants.{BadWords, Bad, Flat, Pose, Plan, Check, Clearance, Make}
 use Rattle.carton_tool.specs.declared.flat.FlatAnswer.TheVariants.{Clear, Blocked}
-use Rattle.carton_tool.specs.declared.check.CheckAnswer.{CheckAnswer}
+use Rattle.carton_tool.specs.declared.plan.PlanAnswer.{PlanAnswer}
+use Rattle.carton_tool.specs.declared.plan.PlanAnswer.TheVariants.{Found, StartBlocked, NoPath, OutOfTurns}
 use Rattle.carton_tool.specs.declared.status.Status.TheVariants.{BadInput}
-use Rattle.carton_tool.specs.Words.{Command, flat, pose, check, IsCommand, files_of}
+use Rattle.carton_tool.specs.Words.{Command, flat, pose, plans, check, clearance, make, IsCommand, files_of}
 use Rattle.carton_tool.specs.Files.{first_long, file_at}
 use Rattle.carton_tool.specs.Flat.{IsFlat}
 use Rattle.carton_tool.specs.Pose.{IsPoseOutcome}
+use Rattle.carton_tool.specs.Plan.{IsPlanning, plan_status}
 use Rattle.carton_tool.specs.Check.{IsCheck, status_of_checked}
+use Rattle.carton_tool.specs.Clearance.{IsClearance}
+use Rattle.carton_tool.specs.Make.{IsMake}
+use Rattle.carton_tool.specs.declared.clearance.ClearanceAnswer.TheVariants.{Rows, Fails}
 use Rattle.carton_check.specs.declared.checked.Checked.{Checked}
 use Rattle.carton_check.specs.declared.checked.Checked.TheVariants.{WrongCreases, WrongStart, WrongEnd, NotOneStop, Holds, Blocked as BlockedMove}
 use Rattle.carton_tool.specs.Answers.{text_of, status_of, answer_of, IsOwn, IsAnswerTo, IsFunction, IsAnswerOf, IsAnswer, IsDetermined}
 use Rattle.carton_tool.proofs.Commands.{one_command}
 use Rattle.carton_tool.proofs.FlatDetermined.{one_flat}
 use Rattle.carton_tool.proofs.PoseDetermined.{one_pose_refusal}
-use Rattle.carton_tool.proofs.CheckDetermined.{one_check_refusal}
+use Rattle.carton_tool.proofs.PlanDetermined.{one_planning_refusal}
+use Rattle.carton_tool.proofs.CheckDetermined.{one_check_refusal, one_clearance_refusal}
 
 -- an outcome that is one gives one answer
 one_own : {A : Type 0} → (own : A → Answer) (P : Result A BadFile → Type 0) → ((a b : Result A BadFile) → P a → P b → a ≡ b) → (x y : Answer) → IsOwn own P x → IsOwn own P y → x ≡ y
@@ -36,13 +42,19 @@ one_refused own P no_own one file y (Err bad, p, is) k = is ∙ ap (answer_of ow
 one_answer_to : (c : Command) (files : List (List ℕ)) (a b : Answer) → IsFunction c → IsAnswerTo c files a → IsAnswerTo c files b → a ≡ b
 one_answer_to (flat dieline margin) files a b is h k = one_own Flat (IsFlat margin (file_at 0 files)) (one_flat margin (file_at 0 files)) a b h k
 one_answer_to (pose dieline job end) files a b is h k = absurd is
+one_answer_to (plans dieline job) files a b is h k = absurd is
 one_answer_to (check dieline job plan) files a b is h k = absurd is
+one_answer_to (clearance dieline job plan) files a b is h k = absurd is
+one_answer_to (make count) files a b is h k = absurd is
 
 -- where a file is refused, no other answer is allowed
 one_refusal_to : (c : Command) (files : List (List ℕ)) (file : BadFile) (b : Answer) → IsAnswerTo c files (Bad file) → IsAnswerTo c files b → Bad file ≡ b
 one_refusal_to (flat dieline margin) files file b h k = one_refused Flat (IsFlat margin (file_at 0 files)) (λ a bad e. absurd (cc)) (λ bad r p q. one_flat margin (file_at 0 files) (Err bad) r p q) file b h k
 one_refusal_to (pose dieline job end) files file b h k = one_refused Pose (IsPoseOutcome end (file_at 0 files) (file_at 1 files)) (λ a bad e. absurd (cc)) (one_pose_refusal end (file_at 0 files) (file_at 1 files)) file b h k
+one_refusal_to (plans dieline job) files file b h k = one_refused Plan (IsPlanning (file_at 0 files) (file_at 1 files)) (λ a bad e. absurd (cc)) (one_planning_refusal (file_at 0 files) (file_at 1 files)) file b h k
 one_refusal_to (check dieline job plan) files file b h k = one_refused Check (IsCheck (file_at 0 files) (file_at 1 files) (file_at 2 files)) (λ a bad e. absurd (cc)) (one_check_refusal (file_at 0 files) (file_at 1 files) (file_at 2 files)) file b h k
+one_refusal_to (clearance dieline job plan) files file b h k = one_refused Clearance (IsClearance (file_at 0 files) (file_at 1 files) (file_at 2 files)) (λ a bad e. absurd (cc)) (one_clearance_refusal (file_at 0 files) (file_at 1 files) (file_at 2 files)) file b h k
+one_refusal_to (make count) files file b h k = one_refused Make (IsMake count) (λ a bad e. absurd (cc)) (λ bad r p q. absurd p) file b h k
 
 -- what is told of a plan is never that of bad input
 not_bad_input : (checked : Checked) → status_of_checked checked ≡ BadInput → ⊥
@@ -53,6 +65,13 @@ not_bad_input (NotOneStop i) e = cc
 not_bad_input (BlockedMove i a b m) e = cc
 not_bad_input (Holds moves) e = cc
 
+-- nor is what is told of a search
+no_bad_input : (answer : PlanAnswer) → plan_status answer ≡ BadInput → ⊥
+no_bad_input (Found plan text) e = cc
+no_bad_input (StartBlocked a b) e = cc
+no_bad_input NoPath e = cc
+no_bad_input (OutOfTurns moves) e = cc
+
 -- the status of bad input is that of a file that is refused alone
 refused : (a : Answer) → status_of a ≡ BadInput → (file : BadFile) × (a ≡ Bad file)
 refused BadWords e = absurd (cc)
@@ -60,7 +79,11 @@ refused (Bad file) e = (file, refl)
 refused (Flat (Clear pairs)) e = absurd (cc)
 refused (Flat (Blocked p q)) e = absurd (cc)
 refused (Pose answer) e = absurd (cc)
+refused (Plan answer) e = absurd (no_bad_input answer e)
 refused (Check answer) e = absurd (not_bad_input answer.checked e)
+refused (Clearance (Rows rows)) e = absurd (cc)
+refused (Clearance (Fails answer)) e = absurd (cc)
+refused (Make answer) e = absurd (cc)
 
 -- one answer for the bytes of a command's files
 one_answer_of : (c : Command) (files : List (List ℕ)) (a b : Answer) → IsFunction c ⊎ (status_of a ≡ BadInput) → IsAnswerOf c files a → IsAnswerOf c files b → a ≡ b

@@ -1,14 +1,15 @@
 -- The plan of a text, as a step after setting up.
 use Rattle.std.proofs.Common.{◌≡◌, ℕ, List, Result, Ok, Err, refl, ap, sym, ◌∙◌, subst}
 use Rattle.carton_text.specs.PlainPlans.{PlainPlan, plain}
-use Rattle.carton_text.specs.Plans.{plan_of}
 use Rattle.carton_text.specs.declared.fault.LineError.{LineError}
 use Rattle.carton_text.specs.declared.fault.LineError.TheVariants.{Memory}
 use Rattle.carton_text.specs.declared.plan.Plan.{Plan}
-use Rattle.carton_tool.specs.Refusals.{AfterPlan}
+use Rattle.carton_tool.specs.Refusals.{AfterPlan, IsOutcome}
 use Rattle.carton_tool.specs.Setups.{AfterSetup, IsSetup}
 use Rattle.carton_tool.specs.declared.files.FileKind.TheVariants.{Plan as PlanFile}
 use Rattle.carton_tool.specs.declared.refusal.BadFile.{BadFile}
+use Rattle.carton_tool.specs.declared.refusal.Refusal.{Refusal}
+use Rattle.carton_tool.specs.declared.refusal.Refusal.TheVariants.{Bad, NoMemory}
 use Rattle.carton_tool.specs.declared.refusal.Rule.TheVariants.{Line}
 use Rattle.carton_tool.specs.declared.setup.Setup.{Setup}
 use Rattle.carton_tool.proofs.SettingUp.{Given, same_value, not_given, not_bad, same_file, after, after_setup}
@@ -45,3 +46,10 @@ pub after_plan : {A : Type 0} (dieline job : List ℕ) (read : Result PlainPlan 
     → IsSetup dieline job (Ok s) → AfterPlan read Given (Ok plan) → P s plan o → AfterBoth dieline job read P o
 after_plan dieline job read P s plan o h k q = after_setup dieline job (λ u. AfterPlan read (P u)) s o h
     (after Memory bad_plan read (OfPlan Given) (OfPlan (P s)) (Ok plan) o (λ f e. absurd (not_bad plan f e)) (λ p w. (w.0, w.1, subst (λ z. P s z o) (same_value plan w.0 w.2) q)) k)
+
+-- what a command gives for the carton, the task and the plan it gives for the bytes
+pub outcome_after_plan : {A : Type 0} (dieline job : List ℕ) (read : Result PlainPlan LineError) (P : Setup → Plan → Result A BadFile → Type 0) (s : Setup) (plan : Plan) (r : Result A Refusal)
+    → IsSetup dieline job (Ok s) → AfterPlan read Given (Ok plan) → IsOutcome (P s plan) r → IsOutcome (AfterBoth dieline job read P) r
+outcome_after_plan dieline job read P s plan (Ok answer) h k q = after_plan dieline job read P s plan (Ok answer) h k q
+outcome_after_plan dieline job read P s plan (Err (Bad file)) h k q = after_plan dieline job read P s plan (Err file) h k q
+outcome_after_plan dieline job read P s plan (Err NoMemory) h k q = tt

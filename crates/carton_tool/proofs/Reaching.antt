@@ -21,7 +21,7 @@ none_read holds all = record { told = λ others h. h; long = λ others. refl; re
 long_here : (f : Named) (named : List Named) (file : List ℕ) (others : List (List ℕ)) → most_bytes f.kind < length file → first_long (f ∷ named) (file ∷ others) ≡ Some f.kind
 long_here f named file others more = rw (lt-ltb (most_bytes f.kind) (length file) more) refl
 
-short_here : (f : Named) (named : List Named) (file : List ℕ) (others : List (List ℕ)) → length file ≤ most_bytes f.kind → first_long (f ∷ named) (file ∷ others) ≡ first_long named others
+pub short_here : (f : Named) (named : List Named) (file : List ℕ) (others : List (List ℕ)) → length file ≤ most_bytes f.kind → first_long (f ∷ named) (file ∷ others) ≡ first_long named others
 short_here f named file others few = rw (le-ltb (most_bytes f.kind) (length file) few) refl
 
 told_short : (told : Option (List ℕ)) (file : List ℕ) (k : ℕ) → length file ≤ k → IfSome told (λ bytes. file ≡ bytes) → IfSome told (λ bytes. length bytes ≤ k)

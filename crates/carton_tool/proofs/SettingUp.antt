@@ -164,3 +164,9 @@ refused_setup dieline job Q file h = carry dieline job Given Q (Err file) (Err f
 -- and else its outcome is what is said of the carton and the task
 pub after_setup : {A : Type 0} (dieline job : List ℕ) (Q : Setup → Result A BadFile → Type 0) (s : Setup) (o : Result A BadFile) → IsSetup dieline job (Ok s) → Q s o → AfterSetup dieline job Q o
 after_setup dieline job Q s o h q = carry dieline job Given Q (Ok s) o (λ f e. absurd (not_bad s f e)) (λ s' e. subst (λ z. Q z o) (same_value s s' e) q) h
+
+-- what a command gives for the carton and the task it gives for the bytes
+pub outcome_after : {A : Type 0} (dieline job : List ℕ) (Q : Setup → Result A BadFile → Type 0) (s : Setup) (r : Result A Refusal) → IsSetup dieline job (Ok s) → IsOutcome (Q s) r → IsOutcome (AfterSetup dieline job Q) r
+outcome_after dieline job Q s (Ok answer) h q = after_setup dieline job Q s (Ok answer) h q
+outcome_after dieline job Q s (Err (Bad file)) h q = after_setup dieline job Q s (Err file) h q
+outcome_after dieline job Q s (Err NoMemory) h q = tt

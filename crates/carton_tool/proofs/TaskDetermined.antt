@@ -39,7 +39,7 @@ among_found f e (j ∷ js) = by_value (f j) (among_found f e js)
     by_value (Some x) more = ap (λ b. is_same x e || b) more
 
 -- a panel that hangs by a joint hangs as the dieline has it
-hung_so : (m : ℕ) (d : RawDieline) (root : ℕ) (t : Tree) (p : ℕ) (j : Joint) → IsTreeOf m d root t → p < length d.faces → joint_of t.joints p ≡ Some j → IsHungBy d t p j
+pub hung_so : (m : ℕ) (d : RawDieline) (root : ℕ) (t : Tree) (p : ℕ) (j : Joint) → IsTreeOf m d root t → p < length d.faces → joint_of t.joints p ≡ Some j → IsHungBy d t p j
 hung_so m d root t p j h lt is = subst (λ o. IsSomeAnd o (IsHungBy d t p)) is (h.hung p lt not_root)
   where
     differ : (x : Joint) → Some x ≡ None → ⊥
@@ -71,7 +71,7 @@ locked_from m d root t e h held =
         (subst (IsJoint d) l.1 (p, j.parent.0, by.joins), subst (IsLocked d) l.1 locked)
 
 -- the joint has no place where it is locked
-no_place : (d : RawDieline) (cs : List EdgeId) (e : ℕ) (o : Option ℕ) → AreCreases d cs → IsLocked d e → IsPlace d cs e o → o ≡ None
+pub no_place : (d : RawDieline) (cs : List EdgeId) (e : ℕ) (o : Option ℕ) → AreCreases d cs → IsLocked d e → IsPlace d cs e o → o ≡ None
 no_place d cs e None are locked place = refl
 no_place d cs e (Some n) are locked place =
     let here : EdgeId = record { 0 = e } in
@@ -91,7 +91,7 @@ locked_to m d root t e h joint locked = let by = h.hangs e.0 joint in at (joint_
         let none = no_place d t.creases e.0 j.turn.place h.creases locked (subst (λ k. IsPlace d t.creases k j.turn.place) same by.turn.place) in
         among_found locked_edge e t.joints ∙ list_any_at (λ o. is_found e (locked_edge o)) t.joints p None (omega (arith, lt, h.carton.joints, h.panels)) (ap (λ o. is_found e (locked_edge o)) is ∙ is_locked j e none same)
 
-same_answer : (a b : Bool) → (a ≡ true → b ≡ true) → (b ≡ true → a ≡ true) → a ≡ b
+pub same_answer : (a b : Bool) → (a ≡ true → b ≡ true) → (b ≡ true → a ≡ true) → a ≡ b
 same_answer true b to from = sym (to refl)
 same_answer false true to from = from refl
 same_answer false false to from = refl

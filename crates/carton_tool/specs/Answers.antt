@@ -1,16 +1,19 @@
 -- Which text and status answer the words and the bytes of the files that they name.
 use Rattle.std.specs.Prelude.{◌≡◌, ◌⊎◌, ⊤, ℕ, List, length, codes, Option, Some, MatchOption, Result, Ok, Err}
-use Rattle.carton_tool.specs.Words.{Command, flat, pose, check, IsCommand, IsNoCommand, files_of}
+use Rattle.carton_tool.specs.Words.{Command, flat, pose, plans, check, clearance, make, IsCommand, IsNoCommand, files_of}
 use Rattle.carton_tool.specs.Files.{AreTold, IsAsHad, IsReached, first_long, file_at}
 use Rattle.carton_tool.specs.Lines.{line}
 use Rattle.carton_tool.specs.Refusals.{refusal_text}
 use Rattle.carton_tool.specs.Flat.{IsFlat, flat_text, flat_status}
 use Rattle.carton_tool.specs.Pose.{IsPoseOutcome, pose_text, pose_status}
+use Rattle.carton_tool.specs.Plan.{IsPlanning, plan_text, plan_status}
 use Rattle.carton_tool.specs.Check.{IsCheck, AreSound, check_text, check_status}
+use Rattle.carton_tool.specs.Clearance.{IsClearance, clearance_text, clearance_status}
+use Rattle.carton_tool.specs.Make.{IsMake, make_text, make_status}
 use Rattle.carton_tool.specs.declared.refusal.Rule.TheVariants.{TooLong}
 use Rattle.carton_tool.specs.declared.refusal.BadFile.{BadFile}
 use Rattle.carton_tool.specs.declared.answer.Answer.{Answer}
-use Rattle.carton_tool.specs.declared.answer.Answer.TheVariants.{BadWords, Bad, Flat, Pose, Check}
+use Rattle.carton_tool.specs.declared.answer.Answer.TheVariants.{BadWords, Bad, Flat, Pose, Plan, Check, Clearance, Make}
 use Rattle.carton_tool.specs.declared.status.Status.{Status}
 use Rattle.carton_tool.specs.declared.status.Status.TheVariants.{BadInput, BadWords as NoWords}
 
@@ -20,7 +23,10 @@ text_of BadWords = line (codes "bad words")
 text_of (Bad file) = refusal_text file
 text_of (Flat answer) = flat_text answer
 text_of (Pose answer) = pose_text answer
+text_of (Plan answer) = plan_text answer
 text_of (Check answer) = check_text answer
+text_of (Clearance answer) = clearance_text answer
+text_of (Make answer) = make_text answer
 
 -- the status that goes with it
 abbrev pub status_of : Answer → Status
@@ -28,7 +34,10 @@ status_of BadWords = NoWords
 status_of (Bad file) = BadInput
 status_of (Flat answer) = flat_status answer
 status_of (Pose answer) = pose_status answer
+status_of (Plan answer) = plan_status answer
 status_of (Check answer) = check_status answer
+status_of (Clearance answer) = clearance_status answer
+status_of (Make answer) = make_status answer
 
 -- the answer that a command's outcome is: one of its own, or that a file is bad
 abbrev pub answer_of : {A : Type 0} → (A → Answer) → Result A BadFile → Answer
@@ -43,13 +52,19 @@ IsOwn {A} own P answer = (outcome : Result A BadFile) × P outcome × (answer �
 abbrev pub IsAnswerTo : Command → List (List ℕ) → Answer → Type 0
 IsAnswerTo (flat dieline margin) files = IsOwn Flat (IsFlat margin (file_at 0 files))
 IsAnswerTo (pose dieline job end) files = IsOwn Pose (IsPoseOutcome end (file_at 0 files) (file_at 1 files))
+IsAnswerTo (plans dieline job) files = IsOwn Plan (IsPlanning (file_at 0 files) (file_at 1 files))
 IsAnswerTo (check dieline job plan) files = IsOwn Check (IsCheck (file_at 0 files) (file_at 1 files) (file_at 2 files))
+IsAnswerTo (clearance dieline job plan) files = IsOwn Clearance (IsClearance (file_at 0 files) (file_at 1 files) (file_at 2 files))
+IsAnswerTo (make count) files = IsOwn Make (IsMake count)
 
 -- commands whose answer is a function of the bytes of their files
 abbrev pub IsFunction : Command → Type 0
 IsFunction (flat dieline margin) = ⊤
 IsFunction (pose dieline job end) = ⊥
+IsFunction (plans dieline job) = ⊥
 IsFunction (check dieline job plan) = ⊥
+IsFunction (clearance dieline job plan) = ⊥
+IsFunction (make count) = ⊥
 
 -- the answer of a command for the bytes of its files: the first that is too long is told before any is looked at
 abbrev pub IsAnswerOf : Command → List (List ℕ) → Answer → Type 0
@@ -82,7 +97,11 @@ IsAnswered holds had words status grew = (files : List (List ℕ)) × AreFiles h
 abbrev pub IsNamed : (List ℕ → Option (List ℕ)) → List (List ℕ) → Option (List ℕ) → Type 0
 IsNamed holds words name = (c : Command) × IsCommand words c × IsReached holds (files_of c) name
 
--- if the words are a check, the bytes that are told of its three files are those of a carton, of a task on it, and of a plan that is sound for them
-abbrev pub IsCheckOfSound : (List ℕ → Option (List ℕ)) → List (List ℕ) → Type 0
-IsCheckOfSound holds words = (dieline job plan d j p : List ℕ) → IsCommand words (check dieline job plan)
+-- the words ask for a check of a plan, or for a report on it, and these are the names of its dieline, its job and the plan
+abbrev pub AskOfPlan : List (List ℕ) → List ℕ → List ℕ → List ℕ → Type 0
+AskOfPlan words dieline job plan = IsCommand words (check dieline job plan) ⊎ IsCommand words (clearance dieline job plan)
+
+-- if the words ask of a plan, the bytes that are told of the three files are those of a carton, of a task on it, and of a plan that is sound for them
+abbrev pub IsOfSound : (List ℕ → Option (List ℕ)) → List (List ℕ) → Type 0
+IsOfSound holds words = (dieline job plan d j p : List ℕ) → AskOfPlan words dieline job plan
     → holds dieline ≡ Some d → holds job ≡ Some j → holds plan ≡ Some p → AreSound d j p

@@ -1,14 +1,17 @@
 -- The command that a reading of the words found, and the files that it names.
 use Rattle.carton_tool.specs.Files.{Named}
-use Rattle.carton_tool.specs.Words.{Command, flat, pose, check}
+use Rattle.carton_tool.specs.Words.{Command, flat, pose, plans, check, clearance, make}
 use Rattle.carton_tool.specs.declared.files.Wanted.{Wanted}
 use Rattle.carton_tool.specs.declared.words.Asked.{Asked}
-use Rattle.carton_tool.specs.declared.words.Asked.TheVariants.{Flat, Pose, Check}
+use Rattle.carton_tool.specs.declared.words.Asked.TheVariants.{Flat, Pose, Plan, Check, Clearance, Make}
 
 abbrev pub asked : Asked → Command
 asked (Flat dieline margin) = flat dieline.now margin
 asked (Pose dieline job end) = pose dieline.now job.now end
+asked (Plan dieline job) = plans dieline.now job.now
 asked (Check dieline job plan) = check dieline.now job.now plan.now
+asked (Clearance dieline job plan) = clearance dieline.now job.now plan.now
+asked (Make count) = make count
 
 abbrev pub named : Wanted → Named
 named wanted = record { kind = wanted.kind; name = wanted.name.now }

@@ -1,6 +1,5 @@
 -- The answers of `check`: whether a plan is sound for the carton and the task of a job.
-use Rattle.std.specs.Prelude.{◌≡◌, ℕ, nat_eq, List, ◌∷◌, ◌++◌, codes, Result, Ok, Err, if◌then◌else◌}
-use Rattle.std.specs.Fmt.{signed_decimal}
+use Rattle.std.specs.Prelude.{◌≡◌, ℕ, nat_eq, List, ◌++◌, codes, Result, Ok, Err, if◌then◌else◌}
 use Rattle.carton_base.specs.declared.ids.PanelId.{PanelId}
 use Rattle.carton_base.specs.declared.moments.Moment.{Moment}
 use Rattle.carton_check.specs.Checks.{IsChecked}
@@ -10,7 +9,7 @@ use Rattle.carton_check.specs.declared.checked.Checked.TheVariants.{WrongCreases
 use Rattle.carton_text.specs.PlainPlans.{plain}
 use Rattle.carton_text.specs.Plans.{plan_of}
 use Rattle.carton_text.specs.declared.plan.Plan.{Plan}
-use Rattle.carton_tool.specs.Lines.{line, spaced}
+use Rattle.carton_tool.specs.Lines.{line, spaced, moment_text}
 use Rattle.carton_tool.specs.Refusals.{AfterPlan}
 use Rattle.carton_tool.specs.Setups.{AfterSetup, IsSetup}
 use Rattle.carton_tool.specs.declared.check.CheckAnswer.{CheckAnswer}
@@ -18,10 +17,6 @@ use Rattle.carton_tool.specs.declared.refusal.BadFile.{BadFile}
 use Rattle.carton_tool.specs.declared.setup.Setup.{Setup}
 use Rattle.carton_tool.specs.declared.status.Status.{Status}
 use Rattle.carton_tool.specs.declared.status.Status.TheVariants.{Done, Refused}
-
--- a moment, as a fraction
-abbrev pub moment_text : Moment → List ℕ
-moment_text m = signed_decimal m.num ++ (codes "/" ++ signed_decimal m.den)
 
 -- two panels aren't parted well at this moment of a move
 abbrev pub blocked_text : ℕ → PanelId → PanelId → Moment → List ℕ

@@ -7,6 +7,10 @@ pub mod Setups
 pub mod Flat
 pub mod Pose
 pub mod Check
+pub mod Clearance
+pub mod Plan
+pub mod Make
+pub mod Headline
 pub mod FlatPairs
 pub mod Answers
 pub mod Reading

@@ -3,11 +3,13 @@ use Rattle.std.specs.Prelude.{◌≡◌, ℕ, List, Result, Ok}
 use Rattle.carton_base.specs.declared.motion.State.{State}
 use Rattle.carton_fold.specs.Dieline.{dieline_of}
 use Rattle.carton_tree.specs.Answers.{IsTreeAnswer}
+use Rattle.carton_tree.specs.Cartons.{IsCarton}
 use Rattle.carton_tree.specs.Trees.{Tree}
 use Rattle.carton_tree.specs.declared.error.TreeError.{TreeError}
 use Rattle.carton_tree.specs.declared.error.TreeError.TheVariants.{Memory}
 use Rattle.carton_text.specs.CartonTasks.{task_for}
 use Rattle.carton_text.specs.Jobs.{job_of}
+use Rattle.carton_text.specs.PlanRules.{AreCreases}
 use Rattle.carton_text.specs.TaskRules.{IsTask}
 use Rattle.carton_text.specs.Tasks.{Outline, outline}
 use Rattle.carton_text.specs.declared.task.Task.{Task}
@@ -40,10 +42,12 @@ AfterSetup dieline job P =
 abbrev pub IsSetup : List ℕ → List ℕ → Result Setup BadFile → Type 0
 IsSetup dieline job = AfterSetup dieline job (λ s outcome. outcome ≡ Ok s)
 
--- the task keeps its rules, and its joints are those of the carton
+-- the carton and the task keep their rules, the joints of the task are those of the carton, and a plan may have them
 pub record IsRight (s : Setup) : Type 0 where
+  pub carton : IsCarton s.carton
   pub task : IsTask s.task
   pub creases : s.task.creases ≡ s.carton.creases
+  pub in_plans : AreCreases s.task.creases
 
 -- the state of a task at an end
 abbrev pub state_at : End → Task → State

@@ -7,6 +7,7 @@ use Rattle.carton_tool.specs.Files.{Named}
 use Rattle.carton_tool.specs.declared.end.End.{End}
 use Rattle.carton_tool.specs.declared.end.End.TheVariants.{Start, Target}
 use Rattle.carton_tool.specs.declared.files.FileKind.TheVariants.{Dieline, Job, Plan}
+use Rattle.carton_tool.specs.declared.make.TheConstants.{MOST_MADE}
 
 -- the bytes of the words
 abbrev pub texts : List (String Global) → List (List ℕ)
@@ -16,7 +17,10 @@ texts words = map string_bytes words
 pub data Command : Type 0 where
   flat : List ℕ → ℕ → Command
   pose : List ℕ → List ℕ → End → Command
+  plans : List ℕ → List ℕ → Command
   check : List ℕ → List ℕ → List ℕ → Command
+  clearance : List ℕ → List ℕ → List ℕ → Command
+  make : ℕ → Command
 
 -- the word for an end of a task
 abbrev pub end_word : End → List ℕ
@@ -27,19 +31,28 @@ end_word Target = codes "target"
 abbrev pub spelled : Command → List (List ℕ)
 spelled (flat dieline margin) = codes "flat" ∷ dieline ∷ decimal margin ∷ []
 spelled (pose dieline job end) = codes "pose" ∷ dieline ∷ job ∷ end_word end ∷ []
+spelled (plans dieline job) = codes "plan" ∷ dieline ∷ job ∷ []
 spelled (check dieline job plan) = codes "check" ∷ dieline ∷ job ∷ plan ∷ []
+spelled (clearance dieline job plan) = codes "clearance" ∷ dieline ∷ job ∷ plan ∷ []
+spelled (make count) = codes "make" ∷ decimal count ∷ []
 
 -- the numbers of a command lie in their ranges
 abbrev pub AreBounded : Command → Type 0
 AreBounded (flat dieline margin) = margin ≤ WIDEST_MARGIN
 AreBounded (pose dieline job end) = ⊤
+AreBounded (plans dieline job) = ⊤
 AreBounded (check dieline job plan) = ⊤
+AreBounded (clearance dieline job plan) = ⊤
+AreBounded (make count) = (1 ≤ count) × (count ≤ MOST_MADE)
 
 -- the files that a command reads, in the order of reading
 abbrev pub files_of : Command → List Named
 files_of (flat dieline margin) = record { kind = Dieline; name = dieline } ∷ []
 files_of (pose dieline job end) = (record { kind = Dieline; name = dieline }) ∷ (record { kind = Job; name = job }) ∷ []
+files_of (plans dieline job) = (record { kind = Dieline; name = dieline }) ∷ (record { kind = Job; name = job }) ∷ []
 files_of (check dieline job plan) = (record { kind = Dieline; name = dieline }) ∷ (record { kind = Job; name = job }) ∷ (record { kind = Plan; name = plan }) ∷ []
+files_of (clearance dieline job plan) = (record { kind = Dieline; name = dieline }) ∷ (record { kind = Job; name = job }) ∷ (record { kind = Plan; name = plan }) ∷ []
+files_of (make count) = []
 
 -- no name is empty
 abbrev pub AreNames : List Named → Type 0

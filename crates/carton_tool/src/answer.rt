@@ -2,7 +2,10 @@ ghost use Rattle.std.specs.Prelude.{◌≡◌, IfOk};
 ghost use Rattle.carton_tool.specs.Answers.{text_of, status_of};
 
 use crate::check::{CheckAnswer, check_status, check_text};
+use crate::clearance::{ClearanceAnswer, clearance_status, clearance_text};
 use crate::flat::{FlatAnswer, flat_status, flat_text};
+use crate::make::{MakeAnswer, make_status, make_text};
+use crate::plan::{PlanAnswer, plan_status, plan_text};
 use crate::pose::{PoseAnswer, pose_status, pose_text};
 use crate::refusal::{BadFile, refusal_text};
 use crate::status::Status;
@@ -15,7 +18,10 @@ pub enum Answer {
     Bad(BadFile),
     Flat(FlatAnswer),
     Pose(PoseAnswer),
+    Plan(PlanAnswer),
     Check(CheckAnswer),
+    Clearance(ClearanceAnswer),
+    Make(MakeAnswer),
 }
 
 /// The status that goes with an answer.
@@ -27,7 +33,10 @@ pub fn status(answer: &Answer) -> Status
         Answer::Bad(_) => Status::BadInput,
         Answer::Flat(answer) => flat_status(*answer),
         Answer::Pose(answer) => pose_status(answer),
+        Answer::Plan(answer) => plan_status(answer),
         Answer::Check(answer) => check_status(*answer),
+        Answer::Clearance(answer) => clearance_status(answer),
+        Answer::Make(answer) => make_status(answer),
     }
 }
 
@@ -40,6 +49,9 @@ pub fn text(alloc: Global, answer: &Answer) -> Result<Vec<u8>, AllocError>
         Answer::Bad(file) => Ok(refusal_text(alloc, *file)?.into_bytes()),
         Answer::Flat(answer) => Ok(flat_text(alloc, *answer)?.into_bytes()),
         Answer::Pose(answer) => pose_text(alloc, answer),
+        Answer::Plan(answer) => plan_text(alloc, answer),
         Answer::Check(answer) => Ok(check_text(alloc, *answer)?.into_bytes()),
+        Answer::Clearance(answer) => Ok(clearance_text(alloc, answer)?.into_bytes()),
+        Answer::Make(answer) => make_text(alloc, answer),
     }
 }

@@ -1,17 +1,14 @@
 ghost use Rattle.std.specs.Prelude.{◌≡◌, string_bytes, IfOk};
-ghost use Rattle.carton_text.specs.PlanRules.{IsPlan};
-ghost use Rattle.carton_text.specs.Plans.{plan_of};
-ghost use Rattle.carton_tool.specs.Check.{moment_text as moment_text_of, blocked_text as blocked_text_of, check_text as check_text_of, check_status as check_status_of, HoldsIfSound, IsCheck};
+ghost use Rattle.carton_tool.specs.Check.{blocked_text as blocked_text_of, check_text as check_text_of, check_status as check_status_of, HoldsIfSound, IsCheck};
 ghost use Rattle.carton_tool.specs.Lines.{line};
-ghost use Rattle.carton_tool.specs.Refusals.{IsOutcome, AfterPlan};
+ghost use Rattle.carton_tool.specs.Refusals.{IsOutcome};
 
-use crate::files::FileKind;
-use crate::refusal::{BadFile, Refusal, Rule};
-use crate::setup::set_up;
+use crate::lines::moment_text;
+use crate::refusal::Refusal;
+use crate::setup::{plan_in, set_up};
 use crate::status::Status;
 use carton_base::{Moment, PanelId};
 use carton_check::Checked;
-use carton_text::{LineError, Plan, read_plan};
 use std::alloc::{AllocError, Global};
 
 /// The answer of `check`: what is told of the plan, and the stride of the task, which its text goes by.
@@ -33,14 +30,6 @@ pub fn check_status(answer: CheckAnswer) -> Status
         | Checked::NotOneStop(_)
         | Checked::Blocked { .. } => Status::Refused,
     }
-}
-
-// A moment as a fraction.
-fn moment_text(alloc: Global, moment: Moment) -> Result<String, AllocError>
-    ensures { IfOk result (λ text. string_bytes text ≡ moment_text_of moment) }
-{
-    let (num, den) = (moment.num, moment.den);
-    format!(in alloc; "{num}/{den}")
 }
 
 // The text of a move in which two panels aren't parted well, with its line feed.
@@ -74,21 +63,6 @@ pub fn check_text(alloc: Global, answer: CheckAnswer) -> Result<String, AllocErr
         Checked::NotOneStop(step) => format!(in alloc; "past stride {step}\n"),
         Checked::Blocked { step, a, b, moment } => blocked_text(alloc, step, a, b, moment),
         Checked::Holds(moves) => format!(in alloc; "holds {moves}\n"),
-    }
-}
-
-// The plan of the bytes of its file.
-fn plan_in(alloc: Global, bytes: &[u8]) -> Result<Plan, Refusal>
-    ensures reads { IsOutcome (AfterPlan (plan_of bytes.now) (λ plan outcome. outcome ≡ Ok plan)) result }
-    ensures keeps_rules { IfOk result IsPlan }
-{
-    match read_plan(alloc, bytes) {
-        Ok(plan) => Ok(plan),
-        Err(LineError::Memory) => Err(Refusal::NoMemory),
-        Err(e) => Err(Refusal::Bad(BadFile {
-            kind: FileKind::Plan,
-            rule: Rule::Line(e),
-        })),
     }
 }
 

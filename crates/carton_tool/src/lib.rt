@@ -3,10 +3,14 @@
 
 mod answer;
 mod check;
+mod clearance;
 mod end;
 mod files;
 mod flat;
 mod halt;
+mod lines;
+mod make;
+mod plan;
 mod pose;
 mod printed;
 mod refusal;

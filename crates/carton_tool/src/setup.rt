@@ -5,11 +5,14 @@ ghost use Rattle.carton_model.specs.Dielines.{IsDieline};
 ghost use Rattle.carton_model.specs.Moves.{IsState};
 ghost use Rattle.carton_text.specs.Jobs.{job_of};
 ghost use Rattle.carton_text.specs.JobRules.{IsJob};
+ghost use Rattle.carton_text.specs.PlanRules.{AreCreases, IsPlan};
+ghost use Rattle.carton_text.specs.Plans.{plan_of};
 ghost use Rattle.carton_text.specs.TaskRules.{IsTask};
 ghost use Rattle.carton_text.specs.Tasks.{outline};
 ghost use Rattle.carton_text.specs.CartonTasks.{task_for};
 ghost use Rattle.carton_tree.specs.Answers.{IsTreeAnswer};
-ghost use Rattle.carton_tool.specs.Refusals.{IsOutcome, AfterDieline, AfterJob};
+ghost use Rattle.carton_tree.specs.Cartons.{IsCarton};
+ghost use Rattle.carton_tool.specs.Refusals.{IsOutcome, AfterDieline, AfterJob, AfterPlan};
 ghost use Rattle.carton_tool.specs.Setups.{AfterTree, AfterTask, IsSetup, IsRight, state_at};
 
 use crate::end::End;
@@ -17,7 +20,7 @@ use crate::files::FileKind;
 use crate::refusal::{BadFile, Refusal, Rule};
 use carton_base::{PanelId, RawDieline, State};
 use carton_fold::{FoldError, read_dieline};
-use carton_text::{Job, JobError, LineError, Task, job_for, read_job};
+use carton_text::{Job, JobError, LineError, Plan, Task, job_for, read_job, read_plan};
 use carton_tree::{Carton, TreeError, tree};
 use std::alloc::Global;
 
@@ -76,7 +79,9 @@ fn job_in(alloc: Global, bytes: &[u8]) -> Result<Job, Refusal>
 fn carton_in(alloc: Global, raw: &RawDieline, job: &Job) -> Result<Carton, Refusal>
     requires dieline { IsDieline raw.now }
     requires job { IsJob job.now }
-    ensures { IsOutcome (AfterTree (IsTreeAnswer job.now.margin raw.now job.now.root) (λ t outcome. outcome ≡ Ok t)) result }
+    ensures hangs { IsOutcome (AfterTree (IsTreeAnswer job.now.margin raw.now job.now.root) (λ t outcome. outcome ≡ Ok t)) result }
+    ensures keeps_rules { IfOk result IsCarton }
+    ensures creases { IfOk result (λ t. AreCreases t.creases) }
 {
     match tree(alloc, raw, job.margin, PanelId(job.root)) {
         Ok(carton) => Ok(carton),
@@ -117,4 +122,19 @@ pub fn set_up(alloc: Global, dieline: &[u8], job: &[u8]) -> Result<Setup, Refusa
     let carton = carton_in(alloc, &raw, &job)?;
     let task = task_in(alloc, &carton, &raw, &job)?;
     Ok(Setup { carton, task })
+}
+
+/// The plan of the bytes of its file.
+pub fn plan_in(alloc: Global, bytes: &[u8]) -> Result<Plan, Refusal>
+    ensures reads { IsOutcome (AfterPlan (plan_of bytes.now) (λ plan outcome. outcome ≡ Ok plan)) result }
+    ensures keeps_rules { IfOk result IsPlan }
+{
+    match read_plan(alloc, bytes) {
+        Ok(plan) => Ok(plan),
+        Err(LineError::Memory) => Err(Refusal::NoMemory),
+        Err(e) => Err(Refusal::Bad(BadFile {
+            kind: FileKind::Plan,
+            rule: Rule::Line(e),
+        })),
+    }
 }

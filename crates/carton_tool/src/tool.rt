@@ -4,13 +4,18 @@ ghost use Rattle.carton_io.specs.Told.{raised, Rose, GrewInPart};
 ghost use Rattle.carton_tool.specs.Words.{texts, Command, flat, files_of, IsCommand, IsNoCommand, AreBounded};
 ghost use Rattle.carton_tool.specs.Asked.{asked};
 ghost use Rattle.carton_tool.specs.Refusals.{IsOutcome};
-ghost use Rattle.carton_tool.specs.Answers.{text_of, status_of, answer_of as answer_of_outcome, IsAnswerTo, IsAnswer, AreFiles, IsAnswered, IsDetermined, IsNamed, IsCheckOfSound};
+ghost use Rattle.carton_tool.specs.Answers.{text_of, status_of, answer_of as answer_of_outcome, IsAnswerTo, IsAnswer, AreFiles, IsAnswered, IsDetermined, IsNamed, IsOfSound};
+ghost use Rattle.carton_tool.specs.Make.{TellsMade};
+ghost use Rattle.carton_tool.specs.Headline.{IsSafe, HasFewestMoves, TellsPlanWith, IsFoundInReach};
 
 use crate::answer::{Answer, status, text};
 use crate::check::check_answer;
+use crate::clearance::clearance_answer;
 use crate::files::{Unread, bytes_at, read_all};
 use crate::flat::flat_answer;
 use crate::halt::Halt;
+use crate::make::make_answer;
+use crate::plan::plan_answer;
 use crate::pose::pose_answer;
 use crate::refusal::{BadFile, Refusal, Rule};
 use crate::status::Status;
@@ -35,12 +40,24 @@ fn outcome_of(alloc: Global, command: Asked<'_>, files: &[Listed<u8>]) -> Result
             bytes_at(files, 1),
             end,
         )?)),
+        Asked::Plan { .. } => Ok(Answer::Plan(plan_answer(
+            alloc,
+            bytes_at(files, 0),
+            bytes_at(files, 1),
+        )?)),
         Asked::Check { .. } => Ok(Answer::Check(check_answer(
             alloc,
             bytes_at(files, 0),
             bytes_at(files, 1),
             bytes_at(files, 2),
         )?)),
+        Asked::Clearance { .. } => Ok(Answer::Clearance(clearance_answer(
+            alloc,
+            bytes_at(files, 0),
+            bytes_at(files, 1),
+            bytes_at(files, 2),
+        )?)),
+        Asked::Make { count } => Ok(Answer::Make(make_answer(alloc, count)?)),
     }
 }
 
@@ -133,8 +150,17 @@ pub fn run<S: Shelf, K: Sink>(
     ensures answered { result ≢ Status.NoMemory → result ≢ Status.ReadFault → result ≢ Status.WriteFault
         → IsAnswered (S.holds shelf.old) (S.had shelf.new) (texts words.now) result (Appends (K.written sink.old) (K.written sink.new)) }
 
-    // A plan that is told to hold is sound.
-    ensures holds_sound { result ≡ Status.Done → IsCheckOfSound (S.holds shelf.old) (texts words.now) }
+    // A plan that is told is safe, and no path that keeps clear by the slack has fewer moves; where
+    // there is such a path within the budget of turns, a plan is told.
+    ensures safe { result ≡ Status.Done → TellsPlanWith (S.holds shelf.old) (texts words.now) (Appends (K.written sink.old) (K.written sink.new)) IsSafe }
+    ensures least { result ≡ Status.Done → TellsPlanWith (S.holds shelf.old) (texts words.now) (Appends (K.written sink.old) (K.written sink.new)) HasFewestMoves }
+    ensures found { IsFoundInReach (S.holds shelf.old) (texts words.now) result }
+
+    // Of a check and of a report, done is told only of a sound plan.
+    ensures holds_sound { result ≡ Status.Done → IsOfSound (S.holds shelf.old) (texts words.now) }
+
+    // Of made dielines and jobs exactly what may come of planning for them is told.
+    ensures made_sound { result ≡ Status.Done → TellsMade (texts words.now) (Appends (K.written sink.old) (K.written sink.new)) }
 
     // The words and the bytes of the files that they name determine the text and the status.
     ensures determined { IsDetermined (texts words.now) }

@@ -1,11 +1,12 @@
 ghost use Rattle.std.specs.Prelude.{◌≡◌, ◌↔◌, ◌≤◌, ◌≢◌, ℕ, List, [], IsTrue, IfOk, Option, Some, None, map, option_map, MatchOption};
 ghost use Rattle.std.specs.Fmt.{decimal};
-ghost use Rattle.carton_tool.specs.Words.{texts, flat, pose, check, end_word, files_of, IsCommand, IsFound};
+ghost use Rattle.carton_tool.specs.Words.{texts, flat, pose, plans, check, clearance, make, end_word, files_of, IsCommand, IsFound};
 ghost use Rattle.carton_tool.specs.declared.end.End.{End};
 ghost use Rattle.carton_tool.specs.Asked.{asked, named};
 
 use crate::end::End;
 use crate::files::{FileKind, Wanted};
+use crate::make::MOST_MADE;
 use carton_base::{OutOfMemory, WIDEST_MARGIN};
 use std::alloc::{AllocError, Global};
 
@@ -21,10 +22,22 @@ pub enum Asked<'a> {
         job: &'a str,
         end: End,
     },
+    Plan {
+        dieline: &'a str,
+        job: &'a str,
+    },
     Check {
         dieline: &'a str,
         job: &'a str,
         plan: &'a str,
+    },
+    Clearance {
+        dieline: &'a str,
+        job: &'a str,
+        plan: &'a str,
+    },
+    Make {
+        count: u16,
     },
 }
 
@@ -40,18 +53,18 @@ fn is_name(word: &str) -> bool
     !word.is_empty()
 }
 
-// The margin that a word spells in decimal, with no sign or leading zero.
-fn margin_of(alloc: Global, word: &str) -> Result<Option<u16>, AllocError>
+// The number in a range that a word spells in decimal, with no sign or leading zero.
+fn number_in(alloc: Global, word: &str, least: u16, most: u16) -> Result<Option<u16>, AllocError>
     ensures { IfOk result (λ m. MatchOption m
-        ((n : ℕ) → n ≤ WIDEST_MARGIN → word.now ≢ decimal n)
-        (λ n. (n ≤ WIDEST_MARGIN) × (word.now ≡ decimal n))) }
+        ((n : ℕ) → least ≤ n → n ≤ most → word.now ≢ decimal n)
+        (λ n. (least ≤ n) × (n ≤ most) × (word.now ≡ decimal n))) }
 {
-    let Ok(margin) = word.parse::<u16>() else {
+    let Ok(number) = word.parse::<u16>() else {
         return Ok(None);
     };
-    let spelled = format!(in alloc; "{margin}")?;
-    if margin <= WIDEST_MARGIN && is_same(spelled.as_str(), word) {
-        Ok(Some(margin))
+    let spelled = format!(in alloc; "{number}")?;
+    if least <= number && number <= most && is_same(spelled.as_str(), word) {
+        Ok(Some(number))
     } else {
         Ok(None)
     }
@@ -82,7 +95,7 @@ fn flat_in<'a>(alloc: Global, words: &'a [String]) -> Result<Option<Asked<'a>>, 
     if !is_same(command.as_str(), "flat") || !is_name(dieline.as_str()) {
         return Ok(None);
     }
-    match margin_of(alloc, margin.as_str())? {
+    match number_in(alloc, margin.as_str(), 0, WIDEST_MARGIN)? {
         Some(margin) => Ok(Some(Asked::Flat {
             dieline: dieline.as_str(),
             margin,
@@ -113,6 +126,24 @@ fn pose_in<'a>(words: &'a [String]) -> Option<Asked<'a>>
     }
 }
 
+// The command `plan` where the words are one.
+fn plan_in<'a>(words: &'a [String]) -> Option<Asked<'a>>
+    ensures { MatchOption result
+        ((dieline job : List ℕ) → ¬ (IsCommand (texts words.now) (plans dieline job)))
+        (λ a. IsCommand (texts words.now) (asked a)) }
+{
+    let [command, dieline, job] = words else {
+        return None;
+    };
+    if !is_same(command.as_str(), "plan") || !is_name(dieline.as_str()) || !is_name(job.as_str()) {
+        return None;
+    }
+    Some(Asked::Plan {
+        dieline: dieline.as_str(),
+        job: job.as_str(),
+    })
+}
+
 // The command `check` where the words are one.
 fn check_in<'a>(words: &'a [String]) -> Option<Asked<'a>>
     ensures { MatchOption result
@@ -136,6 +167,47 @@ fn check_in<'a>(words: &'a [String]) -> Option<Asked<'a>>
     })
 }
 
+// The command `clearance` where the words are one.
+fn clearance_in<'a>(words: &'a [String]) -> Option<Asked<'a>>
+    ensures { MatchOption result
+        ((dieline job plan : List ℕ) → ¬ (IsCommand (texts words.now) (clearance dieline job plan)))
+        (λ a. IsCommand (texts words.now) (asked a)) }
+{
+    let [command, dieline, job, plan] = words else {
+        return None;
+    };
+    if !is_same(command.as_str(), "clearance")
+        || !is_name(dieline.as_str())
+        || !is_name(job.as_str())
+        || !is_name(plan.as_str())
+    {
+        return None;
+    }
+    Some(Asked::Clearance {
+        dieline: dieline.as_str(),
+        job: job.as_str(),
+        plan: plan.as_str(),
+    })
+}
+
+// The command `make` where the words are one.
+fn make_in<'a>(alloc: Global, words: &'a [String]) -> Result<Option<Asked<'a>>, OutOfMemory>
+    ensures { IfOk result (λ c. MatchOption c
+        ((count : ℕ) → ¬ (IsCommand (texts words.now) (make count)))
+        (λ a. IsCommand (texts words.now) (asked a))) }
+{
+    let [command, count] = words else {
+        return Ok(None);
+    };
+    if !is_same(command.as_str(), "make") {
+        return Ok(None);
+    }
+    match number_in(alloc, count.as_str(), 1, MOST_MADE)? {
+        Some(count) => Ok(Some(Asked::Make { count })),
+        None => Ok(None),
+    }
+}
+
 /// The command that the words are; None where they are none.
 pub fn command_of<'a>(alloc: Global, words: &'a [String]) -> Result<Option<Asked<'a>>, OutOfMemory>
     ensures { IfOk result (λ c. IsFound (texts words.now) (option_map asked c)) }
@@ -146,8 +218,17 @@ pub fn command_of<'a>(alloc: Global, words: &'a [String]) -> Result<Option<Asked
     if let Some(pose) = pose_in(words) {
         return Ok(Some(pose));
     }
+    if let Some(plan) = plan_in(words) {
+        return Ok(Some(plan));
+    }
     if let Some(check) = check_in(words) {
         return Ok(Some(check));
+    }
+    if let Some(clearance) = clearance_in(words) {
+        return Ok(Some(clearance));
+    }
+    if let Some(make) = make_in(alloc, words)? {
+        return Ok(Some(make));
     }
     Ok(None)
 }
@@ -163,7 +244,7 @@ pub fn wanted_by<'a>(alloc: Global, command: Asked<'a>) -> Result<Vec<Wanted<'a>
                 name: dieline,
             },
         ]?),
-        Asked::Pose { dieline, job, .. } => Ok(vec![in alloc;
+        Asked::Pose { dieline, job, .. } | Asked::Plan { dieline, job } => Ok(vec![in alloc;
             Wanted {
                 kind: FileKind::Dieline,
                 name: dieline,
@@ -173,19 +254,22 @@ pub fn wanted_by<'a>(alloc: Global, command: Asked<'a>) -> Result<Vec<Wanted<'a>
                 name: job,
             },
         ]?),
-        Asked::Check { dieline, job, plan } => Ok(vec![in alloc;
-            Wanted {
-                kind: FileKind::Dieline,
-                name: dieline,
-            },
-            Wanted {
-                kind: FileKind::Job,
-                name: job,
-            },
-            Wanted {
-                kind: FileKind::Plan,
-                name: plan,
-            },
-        ]?),
+        Asked::Check { dieline, job, plan } | Asked::Clearance { dieline, job, plan } => Ok(
+            vec![in alloc;
+                Wanted {
+                    kind: FileKind::Dieline,
+                    name: dieline,
+                },
+                Wanted {
+                    kind: FileKind::Job,
+                    name: job,
+                },
+                Wanted {
+                    kind: FileKind::Plan,
+                    name: plan,
+                },
+            ]?,
+        ),
+        Asked::Make { .. } => Ok(Vec::new(alloc)),
     }
 }

@@ -1,7 +1,7 @@
 use Rattle.std.proofs.Common.{SFits, rules}
 use Rattle.std.specs.Int.{w64}
 use Rattle.std.proofs.lemmas.Int.{to_z-of_z}
-use Rattle.carton_tool.proofs.check.moment_text.Goals as goal
+use Rattle.carton_tool.proofs.lines.moment_text.Goals as goal
 
 pub returns : goal.returns
 returns c =
