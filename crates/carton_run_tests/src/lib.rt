@@ -10,6 +10,8 @@ mod ends;
 #[cfg(test)]
 mod faulty_ends;
 #[cfg(test)]
+mod fixtures;
+#[cfg(test)]
 mod makes;
 #[cfg(test)]
 mod plans;

@@ -4,7 +4,7 @@ use Rattle.std.specs.Prelude.{codes, if◌then◌else◌}
 use Rattle.std.specs.Str.{bytes_eq}
 use Rattle.std.specs.Str.Parse.{digits_value}
 use Rattle.std.proofs.lemmas.Fmt.{decimal_is_IsNumeral}
-use Rattle.carton_tool.specs.Words.{Command, flat, pose, plans, check, clearance, make, spelled, AreBounded, IsCommand}
+use Rattle.carton_tool.specs.Words.{Command, flat, pose, plans, check, clearance, make, spelled, AreBounded, IsCommand, fixtures, verify}
 use Rattle.carton_tool.specs.declared.end.End.TheVariants.{Start, Target}
 
 -- the command of the name `flat` with these further words
@@ -51,6 +51,25 @@ make_of [] = None
 make_of (count ∷ []) = Some (make (digits_value 10 count))
 make_of (count ∷ more ∷ others) = None
 
+-- the command of the name `fixture`
+abbrev fixture_of : List (List ℕ) → Option Command
+fixture_of [] = None
+fixture_of (dieline ∷ []) = None
+fixture_of (dieline ∷ job ∷ []) = None
+fixture_of (dieline ∷ job ∷ plan ∷ []) = None
+fixture_of (dieline ∷ job ∷ plan ∷ catalogue ∷ []) = Some (fixtures dieline job plan catalogue)
+fixture_of (dieline ∷ job ∷ plan ∷ catalogue ∷ more ∷ others) = None
+
+-- the command of the name `verify`
+abbrev verify_of : List (List ℕ) → Option Command
+verify_of [] = None
+verify_of (dieline ∷ []) = None
+verify_of (dieline ∷ job ∷ []) = None
+verify_of (dieline ∷ job ∷ plan ∷ []) = None
+verify_of (dieline ∷ job ∷ plan ∷ catalogue ∷ []) = None
+verify_of (dieline ∷ job ∷ plan ∷ catalogue ∷ fixture ∷ []) = Some (verify dieline job plan catalogue fixture)
+verify_of (dieline ∷ job ∷ plan ∷ catalogue ∷ fixture ∷ more ∷ others) = None
+
 -- the command that words spell, if any
 abbrev command_in : List (List ℕ) → Option Command
 command_in [] = None
@@ -60,7 +79,9 @@ command_in (word ∷ others) =
     if bytes_eq word (codes "plan") then plan_of others else (
     if bytes_eq word (codes "check") then check_of others else (
     if bytes_eq word (codes "clearance") then clearance_of others else (
-    if bytes_eq word (codes "make") then make_of others else None)))))
+    if bytes_eq word (codes "make") then make_of others else (
+    if bytes_eq word (codes "fixture") then fixture_of others else (
+    if bytes_eq word (codes "verify") then verify_of others else None)))))))
 
 -- a command is found in its own words
 found : (c : Command) → AreBounded c → command_in (spelled c) ≡ Some c
@@ -71,6 +92,8 @@ found (plans dieline job) few = refl
 found (check dieline job plan) few = refl
 found (clearance dieline job plan) few = refl
 found (make count) few = ap (λ n. Some (make n)) (decimal_is_IsNumeral count (omega (arith, few.1))).1
+found (fixtures dieline job plan catalogue) few = refl
+found (verify dieline job plan catalogue fixture) few = refl
 
 some_is : (c c' : Command) → Some c ≡ Some c' → c ≡ c'
 some_is c c' e = cc

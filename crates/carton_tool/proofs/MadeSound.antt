@@ -1,5 +1,5 @@
 -- Of made dielines and jobs exactly what may come of planning for them is told.
-use Rattle.std.proofs.Common.{◌≡◌, ℕ, List, inl, inr, ap, subst, Result, Ok, Err}
+use Rattle.std.proofs.Common.{ℕ, List, inl, inr, ap, subst, Result, Ok, Err}
 use Rattle.carton_tool.specs.Answers.{text_of, answer_of, IsAnswerOf, IsAnswer}
 use Rattle.carton_tool.specs.Make.{IsMadeOf, IsMake, TellsMade}
 use Rattle.carton_tool.specs.Words.{make}

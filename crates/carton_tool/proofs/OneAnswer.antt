@@ -5,12 +5,12 @@ use Rattle.carton_tool.specs.declared.files.FileKind.{FileKind}
 use Rattle.carton_tool.specs.declared.refusal.BadFile.{BadFile}
 use Rattle.carton_tool.specs.declared.refusal.Rule.TheVariants.{TooLong}
 use Rattle.carton_tool.specs.declared.answer.Answer.{Answer}
-use Rattle.carton_tool.specs.declared.answer.Answer.TheVariants.{BadWords, Bad, Flat, Pose, Plan, Check, Clearance, Make}
+use Rattle.carton_tool.specs.declared.answer.Answer.TheVariants.{BadWords, Bad, Flat, Pose, Plan, Check, Clearance, Make, Fixture, Verify}
 use Rattle.carton_tool.specs.declared.flat.FlatAnswer.TheVariants.{Clear, Blocked}
 use Rattle.carton_tool.specs.declared.plan.PlanAnswer.{PlanAnswer}
 use Rattle.carton_tool.specs.declared.plan.PlanAnswer.TheVariants.{Found, StartBlocked, NoPath, OutOfTurns}
 use Rattle.carton_tool.specs.declared.status.Status.TheVariants.{BadInput}
-use Rattle.carton_tool.specs.Words.{Command, flat, pose, plans, check, clearance, make, IsCommand, files_of}
+use Rattle.carton_tool.specs.Words.{Command, flat, pose, plans, check, clearance, make, IsCommand, files_of, fixtures, verify}
 use Rattle.carton_tool.specs.Files.{first_long, file_at}
 use Rattle.carton_tool.specs.Flat.{IsFlat}
 use Rattle.carton_tool.specs.Pose.{IsPoseOutcome}
@@ -18,6 +18,11 @@ use Rattle.carton_tool.specs.Plan.{IsPlanning, plan_status}
 use Rattle.carton_tool.specs.Check.{IsCheck, status_of_checked}
 use Rattle.carton_tool.specs.Clearance.{IsClearance}
 use Rattle.carton_tool.specs.Make.{IsMake}
+use Rattle.carton_tool.specs.Fixture.{IsFixtureOutcome}
+use Rattle.carton_tool.specs.declared.fixture.FixtureAnswer.TheVariants.{Made, PlanFails, Refused as NotMade}
+use Rattle.carton_tool.specs.Verify.{IsVerifyOutcome, status_of_verified}
+use Rattle.carton_fixture.specs.declared.answers.Verified.{Verified}
+use Rattle.carton_fixture.specs.declared.answers.Verified.TheVariants.{PlanFails as PlanFailed, OtherStroke, NotCandidate, Touches, Unheld, Holds as HoldsAll}
 use Rattle.carton_tool.specs.declared.clearance.ClearanceAnswer.TheVariants.{Rows, Fails}
 use Rattle.carton_check.specs.declared.checked.Checked.{Checked}
 use Rattle.carton_check.specs.declared.checked.Checked.TheVariants.{WrongCreases, WrongStart, WrongEnd, NotOneStop, Holds, Blocked as BlockedMove}
@@ -27,6 +32,7 @@ use Rattle.carton_tool.proofs.FlatDetermined.{one_flat}
 use Rattle.carton_tool.proofs.PoseDetermined.{one_pose_refusal}
 use Rattle.carton_tool.proofs.PlanDetermined.{one_planning_refusal}
 use Rattle.carton_tool.proofs.CheckDetermined.{one_check_refusal, one_clearance_refusal}
+use Rattle.carton_tool.proofs.SupplyDetermined.{one_fixture_refusal, one_verify_refusal}
 
 -- an outcome that is one gives one answer
 one_own : {A : Type 0} → (own : A → Answer) (P : Result A BadFile → Type 0) → ((a b : Result A BadFile) → P a → P b → a ≡ b) → (x y : Answer) → IsOwn own P x → IsOwn own P y → x ≡ y
@@ -46,6 +52,8 @@ one_answer_to (plans dieline job) files a b is h k = absurd is
 one_answer_to (check dieline job plan) files a b is h k = absurd is
 one_answer_to (clearance dieline job plan) files a b is h k = absurd is
 one_answer_to (make count) files a b is h k = absurd is
+one_answer_to (fixtures dieline job plan catalogue) files a b is h k = absurd is
+one_answer_to (verify dieline job plan catalogue fixture) files a b is h k = absurd is
 
 -- where a file is refused, no other answer is allowed
 one_refusal_to : (c : Command) (files : List (List ℕ)) (file : BadFile) (b : Answer) → IsAnswerTo c files (Bad file) → IsAnswerTo c files b → Bad file ≡ b
@@ -55,6 +63,11 @@ one_refusal_to (plans dieline job) files file b h k = one_refused Plan (IsPlanni
 one_refusal_to (check dieline job plan) files file b h k = one_refused Check (IsCheck (file_at 0 files) (file_at 1 files) (file_at 2 files)) (λ a bad e. absurd (cc)) (one_check_refusal (file_at 0 files) (file_at 1 files) (file_at 2 files)) file b h k
 one_refusal_to (clearance dieline job plan) files file b h k = one_refused Clearance (IsClearance (file_at 0 files) (file_at 1 files) (file_at 2 files)) (λ a bad e. absurd (cc)) (one_clearance_refusal (file_at 0 files) (file_at 1 files) (file_at 2 files)) file b h k
 one_refusal_to (make count) files file b h k = one_refused Make (IsMake count) (λ a bad e. absurd (cc)) (λ bad r p q. absurd p) file b h k
+one_refusal_to (fixtures dieline job plan catalogue) files file b h k =
+    one_refused Fixture (IsFixtureOutcome (file_at 0 files) (file_at 1 files) (file_at 2 files) (file_at 3 files)) (λ a bad e. absurd (cc)) (one_fixture_refusal (file_at 0 files) (file_at 1 files) (file_at 2 files) (file_at 3 files)) file b h k
+one_refusal_to (verify dieline job plan catalogue fixture) files file b h k =
+    one_refused Verify (IsVerifyOutcome (file_at 0 files) (file_at 1 files) (file_at 2 files) (file_at 3 files) (file_at 4 files)) (λ a bad e. absurd (cc))
+    (one_verify_refusal (file_at 0 files) (file_at 1 files) (file_at 2 files) (file_at 3 files) (file_at 4 files)) file b h k
 
 -- what is told of a plan is never that of bad input
 not_bad_input : (checked : Checked) → status_of_checked checked ≡ BadInput → ⊥
@@ -72,6 +85,15 @@ no_bad_input (StartBlocked a b) e = cc
 no_bad_input NoPath e = cc
 no_bad_input (OutOfTurns moves) e = cc
 
+-- nor is what is told of a fixture
+never_bad_input : (verified : Verified) → status_of_verified verified ≡ BadInput → ⊥
+never_bad_input (PlanFailed checked) e = cc
+never_bad_input OtherStroke e = cc
+never_bad_input (NotCandidate place) e = cc
+never_bad_input (Touches id panel step m) e = cc
+never_bad_input (Unheld u) e = cc
+never_bad_input (HoldsAll bodies) e = cc
+
 -- the status of bad input is that of a file that is refused alone
 refused : (a : Answer) → status_of a ≡ BadInput → (file : BadFile) × (a ≡ Bad file)
 refused BadWords e = absurd (cc)
@@ -84,6 +106,10 @@ refused (Check answer) e = absurd (not_bad_input answer.checked e)
 refused (Clearance (Rows rows)) e = absurd (cc)
 refused (Clearance (Fails answer)) e = absurd (cc)
 refused (Make answer) e = absurd (cc)
+refused (Fixture (Made fixture text)) e = absurd (cc)
+refused (Fixture (PlanFails answer)) e = absurd (cc)
+refused (Fixture (NotMade bodies unheld)) e = absurd (cc)
+refused (Verify answer) e = absurd (never_bad_input answer.verified e)
 
 -- one answer for the bytes of a command's files
 one_answer_of : (c : Command) (files : List (List ℕ)) (a b : Answer) → IsFunction c ⊎ (status_of a ≡ BadInput) → IsAnswerOf c files a → IsAnswerOf c files b → a ≡ b

@@ -1,12 +1,13 @@
 -- What a command gives, as an answer of the program.
-use Rattle.std.proofs.Common.{◌≡◌, ℕ, suc, inr, List, [], ◌∷◌, length, sym, subst, refl, ap, Result, Err, Option}
+use Rattle.std.proofs.Common.{◌≡◌, ℕ, suc, inr, List, [], ◌∷◌, length, sym, subst, refl, ap, Result, Err, Option, Some}
 use Rattle.std.specs.Prelude.{MatchOption}
 use Rattle.carton_tool.specs.Words.{Command, IsCommand, files_of}
 use Rattle.carton_tool.specs.Files.{Named, AreTold, IsAsHad}
-use Rattle.carton_tool.specs.Reading.{AreAllRead}
+use Rattle.carton_tool.specs.Reading.{AreRead, AreAllRead}
 use Rattle.carton_tool.specs.Refusals.{IsOutcome}
 use Rattle.carton_tool.specs.Answers.{answer_of, IsOwn, IsAnswerTo, IsAnswer, AreFiles}
 use Rattle.carton_tool.specs.declared.answer.Answer.{Answer}
+use Rattle.carton_tool.specs.declared.files.FileKind.{FileKind}
 use Rattle.carton_tool.specs.declared.refusal.BadFile.{BadFile}
 use Rattle.carton_tool.specs.declared.refusal.Refusal.{Refusal}
 use Rattle.carton_tool.specs.declared.refusal.Refusal.TheVariants.{Bad, NoMemory}
@@ -36,3 +37,18 @@ answered holds had words c files answer is read h = (
   },
   inr (c, is, (told_count holds (files_of c) files read.told, subst (λ o. MatchOption o (IsAnswerTo c files answer) (λ kind. answer ≡ BadAnswer (record { kind = kind; rule = TooLong }))) (sym read.first_is) h)),
 )
+
+-- where a file is too long, that is an answer to the words
+pub told_long : (holds : List ℕ → Option (List ℕ)) (had : ℕ) (words : List (List ℕ)) (c : Command) (kind : FileKind)
+    → IsCommand words c → (files : List (List ℕ)) × AreRead holds had (files_of c) (Some kind) files
+    → (others : List (List ℕ)) × AreFiles holds had words others × IsAnswer words others (BadAnswer (record { kind = kind; rule = TooLong }))
+told_long holds had words c kind is read =
+    let files = read.0 in
+    let answer = BadAnswer (record { kind = kind; rule = TooLong }) in (
+      files,
+      record {
+        told = λ d is'. subst (λ x. AreTold holds (files_of x) files) (one_command words c d is is') read.1.told;
+        long = λ d is'. subst (λ x. IsAsHad had (files_of x) files) (one_command words c d is is') read.1.long;
+      },
+      inr (c, is, (told_count holds (files_of c) files read.1.told, subst (λ o. MatchOption o (IsAnswerTo c files answer) (λ k. answer ≡ BadAnswer (record { kind = k; rule = TooLong }))) (sym read.1.first_is) refl)),
+    )

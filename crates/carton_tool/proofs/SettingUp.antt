@@ -61,11 +61,11 @@ after memory bad (Ok x) P Q o o' same next h = next x h
 after memory bad (Err e) P Q o o' same next h = (same (bad e) h.0, h.1)
 
 -- a step that was refused refuses the whole
-stops : {X E A : Type 0} (memory : E) (bad : E → BadFile) (r : Result X E) (Q : X → Result A BadFile → Type 0) (file : BadFile) → After memory bad r Given (Err file) → After memory bad r Q (Err file)
+pub stops : {X E A : Type 0} (memory : E) (bad : E → BadFile) (r : Result X E) (Q : X → Result A BadFile → Type 0) (file : BadFile) → After memory bad r Given (Err file) → After memory bad r Q (Err file)
 stops memory bad r Q file h = after memory bad r Given Q (Err file) (Err file) (λ f e. same_file _ _ file f e) (λ x e. absurd (not_given x file e)) h
 
 -- what is said of the value that it gave is said of the whole
-goes_on : {X E A : Type 0} (memory : E) (bad : E → BadFile) (r : Result X E) (x : X) (Q : X → Result A BadFile → Type 0) (o : Result A BadFile) → After memory bad r Given (Ok x) → Q x o → After memory bad r Q o
+pub goes_on : {X E A : Type 0} (memory : E) (bad : E → BadFile) (r : Result X E) (x : X) (Q : X → Result A BadFile → Type 0) (o : Result A BadFile) → After memory bad r Given (Ok x) → Q x o → After memory bad r Q o
 goes_on memory bad (Ok y) x Q o h q = subst (λ z. Q z o) (same_value x y h) q
 goes_on memory bad (Err e) x Q o h q = absurd (not_bad x (bad e) h.0)
 

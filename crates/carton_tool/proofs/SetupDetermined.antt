@@ -4,6 +4,7 @@ use Rattle.carton_base.specs.declared.dieline.RawDieline.{RawDieline}
 use Rattle.carton_fold.specs.Dieline.{dieline_of}
 use Rattle.carton_fold.specs.declared.error.FoldError.TheVariants.{Memory as NoMemoryForDieline}
 use Rattle.carton_tree.specs.Answers.{IsTreeAnswer}
+use Rattle.carton_tree.specs.Cartons.{IsCarton}
 use Rattle.carton_tree.specs.Trees.{Tree}
 use Rattle.carton_tree.specs.declared.error.TreeError.{TreeError}
 use Rattle.carton_tree.specs.declared.error.TreeError.TheVariants.{Memory as NoMemoryForTree}
@@ -17,6 +18,7 @@ use Rattle.carton_tool.specs.Refusals.{After}
 use Rattle.carton_tool.specs.Setups.{AfterSetup}
 use Rattle.carton_tool.specs.declared.refusal.BadFile.{BadFile}
 use Rattle.carton_tool.specs.declared.setup.Setup.{Setup}
+use Rattle.carton_tool.proofs.SameCarton.{AreSame, one_carton}
 use Rattle.carton_tool.proofs.SettingUp.{bad_dieline, bad_job, bad_tree, bad_fit, AfterOne, AfterTwo, AfterAll, OfTree}
 use Rattle.carton_tool.proofs.TreeDetermined.{one_refusal, no_tree}
 use Rattle.carton_tool.proofs.TaskDetermined.{one_creases, one_task}
@@ -25,6 +27,10 @@ use Rattle.carton_tool.proofs.TaskDetermined.{one_creases, one_task}
 pub record AreAlike (s u : Setup) : Type 0 where
   pub creases : s.carton.creases ≡ u.carton.creases
   pub outline : outline s.task ≡ outline u.task
+  pub same : AreSame s.carton u.carton
+  pub back : AreSame u.carton s.carton
+  pub whole : IsCarton s.carton
+  pub whole_too : IsCarton u.carton
 
 -- where a file is refused at a step or after it, no other outcome is allowed
 pub one_after : {X E A : Type 0} (memory : E) (bad : E → BadFile) (r : Result X E) (P Q : X → Result A BadFile → Type 0) (file : BadFile) (b : Result A BadFile)
@@ -49,7 +55,7 @@ one_after_task d j P file b one t u tree tree' h k =
     let same = one_task j.margin d j.root t u j tree.3 tree'.3 in
     let creases = one_creases d t.creases u.creases tree.3.creases tree'.3.creases in
     one_after NoMemoryForTask bad_fit (task_for t d j) (OfTree P t) (OfTree P u) file b
-    (λ o v w. one (record { carton = t; task = v.0 }) (record { carton = u; task = w.0 }) (record { creases = creases; outline = v.1 ∙ sym w.1 }) v.2 w.2)
+    (λ o v w. one (record { carton = t; task = v.0 }) (record { carton = u; task = w.0 }) (record { creases = creases; outline = v.1 ∙ sym w.1; same = one_carton j.margin d j.root t u tree tree'; back = one_carton j.margin d j.root u t tree' tree; whole = tree.3.carton; whole_too = tree'.3.carton }) v.2 w.2)
     h (subst (λ r. After NoMemoryForTask bad_fit r (OfTree P u) b) (sym same) k)
 
 -- where setting up refuses a file, or a command does so whose refusals exclude all else on alike setups, no other outcome is allowed

@@ -5,9 +5,13 @@ use Rattle.carton_check.specs.declared.checked.Checked.TheVariants.{WrongCreases
 use Rattle.carton_tool.specs.Answers.{status_of}
 use Rattle.carton_tool.specs.Check.{status_of_checked}
 use Rattle.carton_tool.specs.Plan.{plan_status}
+use Rattle.carton_tool.specs.Verify.{status_of_verified}
+use Rattle.carton_fixture.specs.declared.answers.Verified.{Verified}
+use Rattle.carton_fixture.specs.declared.answers.Verified.TheVariants.{PlanFails as PlanFailed, OtherStroke, NotCandidate, Touches, Unheld, Holds as HoldsAll}
 use Rattle.carton_tool.specs.declared.answer.Answer.{Answer}
-use Rattle.carton_tool.specs.declared.answer.Answer.TheVariants.{BadWords, Bad, Flat, Pose, Plan, Check, Clearance, Make}
+use Rattle.carton_tool.specs.declared.answer.Answer.TheVariants.{BadWords, Bad, Flat, Pose, Plan, Check, Clearance, Make, Fixture, Verify}
 use Rattle.carton_tool.specs.declared.clearance.ClearanceAnswer.TheVariants.{Rows, Fails}
+use Rattle.carton_tool.specs.declared.fixture.FixtureAnswer.TheVariants.{Made, PlanFails, Refused as NotMade}
 use Rattle.carton_tool.specs.declared.flat.FlatAnswer.TheVariants.{Clear, Blocked}
 use Rattle.carton_tool.specs.declared.plan.PlanAnswer.{PlanAnswer}
 use Rattle.carton_tool.specs.declared.plan.PlanAnswer.TheVariants.{Found, StartBlocked, NoPath, OutOfTurns}
@@ -27,6 +31,14 @@ of_plan (StartBlocked a b) e = cc
 of_plan NoPath e = cc
 of_plan (OutOfTurns moves) e = cc
 
+of_verified : (verified : Verified) → status_of_verified verified ≡ ReadFault → ⊥
+of_verified (PlanFailed checked) e = cc
+of_verified OtherStroke e = cc
+of_verified (NotCandidate place) e = cc
+of_verified (Touches id panel step m) e = cc
+of_verified (Unheld u) e = cc
+of_verified (HoldsAll bodies) e = cc
+
 pub no_read_fault : (a : Answer) → status_of a ≡ ReadFault → ⊥
 no_read_fault BadWords e = cc
 no_read_fault (Bad file) e = cc
@@ -38,3 +50,7 @@ no_read_fault (Check answer) e = of_checked answer.checked e
 no_read_fault (Clearance (Rows rows)) e = cc
 no_read_fault (Clearance (Fails answer)) e = cc
 no_read_fault (Make answer) e = cc
+no_read_fault (Fixture (Made fixture text)) e = cc
+no_read_fault (Fixture (PlanFails answer)) e = cc
+no_read_fault (Fixture (NotMade bodies unheld)) e = cc
+no_read_fault (Verify answer) e = of_verified answer.verified e

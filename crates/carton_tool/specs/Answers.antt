@@ -1,6 +1,6 @@
 -- Which text and status answer the words and the bytes of the files that they name.
 use Rattle.std.specs.Prelude.{◌≡◌, ◌⊎◌, ⊤, ℕ, List, length, codes, Option, Some, MatchOption, Result, Ok, Err}
-use Rattle.carton_tool.specs.Words.{Command, flat, pose, plans, check, clearance, make, IsCommand, IsNoCommand, files_of}
+use Rattle.carton_tool.specs.Words.{Command, flat, pose, plans, check, clearance, make, IsCommand, IsNoCommand, files_of, fixtures, verify}
 use Rattle.carton_tool.specs.Files.{AreTold, IsAsHad, IsReached, first_long, file_at}
 use Rattle.carton_tool.specs.Lines.{line}
 use Rattle.carton_tool.specs.Refusals.{refusal_text}
@@ -10,10 +10,12 @@ use Rattle.carton_tool.specs.Plan.{IsPlanning, plan_text, plan_status}
 use Rattle.carton_tool.specs.Check.{IsCheck, AreSound, check_text, check_status}
 use Rattle.carton_tool.specs.Clearance.{IsClearance, clearance_text, clearance_status}
 use Rattle.carton_tool.specs.Make.{IsMake, make_text, make_status}
+use Rattle.carton_tool.specs.Verify.{IsVerifyOutcome, verify_text, verify_status}
 use Rattle.carton_tool.specs.declared.refusal.Rule.TheVariants.{TooLong}
 use Rattle.carton_tool.specs.declared.refusal.BadFile.{BadFile}
 use Rattle.carton_tool.specs.declared.answer.Answer.{Answer}
-use Rattle.carton_tool.specs.declared.answer.Answer.TheVariants.{BadWords, Bad, Flat, Pose, Plan, Check, Clearance, Make}
+use Rattle.carton_tool.specs.declared.answer.Answer.TheVariants.{BadWords, Bad, Flat, Pose, Plan, Check, Clearance, Make, Fixture, Verify}
+use Rattle.carton_tool.specs.Fixture.{IsFixtureOutcome, fixture_text, fixture_status}
 use Rattle.carton_tool.specs.declared.status.Status.{Status}
 use Rattle.carton_tool.specs.declared.status.Status.TheVariants.{BadInput, BadWords as NoWords}
 
@@ -27,6 +29,8 @@ text_of (Plan answer) = plan_text answer
 text_of (Check answer) = check_text answer
 text_of (Clearance answer) = clearance_text answer
 text_of (Make answer) = make_text answer
+text_of (Fixture answer) = fixture_text answer
+text_of (Verify answer) = verify_text answer
 
 -- the status that goes with it
 abbrev pub status_of : Answer → Status
@@ -38,6 +42,8 @@ status_of (Plan answer) = plan_status answer
 status_of (Check answer) = check_status answer
 status_of (Clearance answer) = clearance_status answer
 status_of (Make answer) = make_status answer
+status_of (Fixture answer) = fixture_status answer
+status_of (Verify answer) = verify_status answer
 
 -- the answer that a command's outcome is: one of its own, or that a file is bad
 abbrev pub answer_of : {A : Type 0} → (A → Answer) → Result A BadFile → Answer
@@ -56,6 +62,8 @@ IsAnswerTo (plans dieline job) files = IsOwn Plan (IsPlanning (file_at 0 files) 
 IsAnswerTo (check dieline job plan) files = IsOwn Check (IsCheck (file_at 0 files) (file_at 1 files) (file_at 2 files))
 IsAnswerTo (clearance dieline job plan) files = IsOwn Clearance (IsClearance (file_at 0 files) (file_at 1 files) (file_at 2 files))
 IsAnswerTo (make count) files = IsOwn Make (IsMake count)
+IsAnswerTo (fixtures dieline job plan catalogue) files = IsOwn Fixture (IsFixtureOutcome (file_at 0 files) (file_at 1 files) (file_at 2 files) (file_at 3 files))
+IsAnswerTo (verify dieline job plan catalogue fixture) files = IsOwn Verify (IsVerifyOutcome (file_at 0 files) (file_at 1 files) (file_at 2 files) (file_at 3 files) (file_at 4 files))
 
 -- commands whose answer is a function of the bytes of their files
 abbrev pub IsFunction : Command → Type 0
@@ -65,6 +73,8 @@ IsFunction (plans dieline job) = ⊥
 IsFunction (check dieline job plan) = ⊥
 IsFunction (clearance dieline job plan) = ⊥
 IsFunction (make count) = ⊥
+IsFunction (fixtures dieline job plan catalogue) = ⊥
+IsFunction (verify dieline job plan catalogue fixture) = ⊥
 
 -- the answer of a command for the bytes of its files: the first that is too long is told before any is looked at
 abbrev pub IsAnswerOf : Command → List (List ℕ) → Answer → Type 0

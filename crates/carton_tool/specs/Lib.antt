@@ -4,10 +4,13 @@ pub mod Words
 pub mod Asked
 pub mod Refusals
 pub mod Setups
+pub mod Supplies
 pub mod Flat
 pub mod Pose
 pub mod Check
 pub mod Clearance
+pub mod Fixture
+pub mod Verify
 pub mod Plan
 pub mod Make
 pub mod Headline

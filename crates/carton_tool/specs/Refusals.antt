@@ -1,6 +1,12 @@
 -- Files that are refused, the text of each refusal, and what a command gives in place of an answer.
 use Rattle.std.specs.Prelude.{◌≡◌, ◌≢◌, ⊤, ℕ, List, ◌++◌, codes, Result, Ok, Err}
 use Rattle.carton_base.specs.declared.dieline.RawDieline.{RawDieline}
+use Rattle.carton_catalogue.specs.declared.catalogue.Catalogue.{Catalogue}
+use Rattle.carton_catalogue.specs.declared.catalogue_error.CatalogueError.{CatalogueError}
+use Rattle.carton_catalogue.specs.declared.catalogue_error.CatalogueError.TheVariants.{Line as CatalogueLine, NoGuide, Memory as NoMemoryForCatalogue}
+use Rattle.carton_catalogue.specs.declared.fit_error.FitError.{FitError}
+use Rattle.carton_catalogue.specs.declared.fit_error.FitError.TheVariants.{OtherCreases, NotAJoint as NoJointOfGuide, BadWindow, BandTooWide, ProbeOutside}
+use Rattle.carton_fixture_text.specs.declared.fixture.Fixture.{Fixture}
 use Rattle.carton_fold.specs.Values.{name_of}
 use Rattle.carton_fold.specs.declared.error.FoldError.{FoldError}
 use Rattle.carton_fold.specs.declared.error.FoldError.TheVariants.{NotJson, NotObject, Missing, BadShape, TooMany, NotWhole, TooFar, NotFlat, BadVertex, BadLetter, JoinEdge, Memory}
@@ -17,9 +23,9 @@ use Rattle.carton_tree.specs.declared.error.TreeError.{TreeError}
 use Rattle.carton_tree.specs.declared.error.TreeError.TheVariants.{Panel as NoPanel, SideNoEdge, ThreeFaces, SameSide, Slanted, Loop, NoRoot, Apart, TooDeep, Memory as NoMemoryForTree}
 use Rattle.carton_tool.specs.Files.{kind_text}
 use Rattle.carton_tool.specs.Lines.{line, spaced}
-use Rattle.carton_tool.specs.declared.files.FileKind.TheVariants.{Dieline, Job as JobFile, Plan as PlanFile}
+use Rattle.carton_tool.specs.declared.files.FileKind.TheVariants.{Dieline, Job as JobFile, Plan as PlanFile, Catalogue as CatalogueFile, Fixture as FixtureFile}
 use Rattle.carton_tool.specs.declared.refusal.Rule.{Rule}
-use Rattle.carton_tool.specs.declared.refusal.Rule.TheVariants.{TooLong, Fold, Panel, Tree, Line, Fit}
+use Rattle.carton_tool.specs.declared.refusal.Rule.TheVariants.{TooLong, Fold, Panel, Tree, Line, Fit, Catalogue as CatalogueRule, Guides}
 use Rattle.carton_tool.specs.declared.refusal.BadFile.{BadFile}
 use Rattle.carton_tool.specs.declared.refusal.Refusal.{Refusal}
 use Rattle.carton_tool.specs.declared.refusal.Refusal.TheVariants.{Bad, NoMemory}
@@ -77,6 +83,20 @@ fit_text (EmptyTeam number) = codes "empty team line" ++ spaced number
 fit_text (TooManyTeams count) = codes "too many teams" ++ spaced count
 fit_text NoMemoryForTask = codes "out of memory"
 
+-- the first fault of a catalogue's text; want of memory is never printed
+abbrev pub catalogue_text : CatalogueError → List ℕ
+catalogue_text (CatalogueLine e) = line_text e
+catalogue_text NoGuide = codes "no guide"
+catalogue_text NoMemoryForCatalogue = codes "out of memory"
+
+-- why a catalogue doesn't fit a carton, its task and a plan
+abbrev pub guides_text : FitError → List ℕ
+guides_text OtherCreases = codes "other creases"
+guides_text (NoJointOfGuide guide) = codes "not a joint guide" ++ spaced guide
+guides_text (BadWindow guide) = codes "bad window guide" ++ spaced guide
+guides_text (BandTooWide guide) = codes "band too wide guide" ++ spaced guide
+guides_text (ProbeOutside guide probe) = codes "probe outside guide" ++ spaced guide ++ (codes " probe" ++ spaced probe)
+
 -- the rule that a file breaks
 abbrev pub rule_text : Rule → List ℕ
 rule_text TooLong = codes "too long"
@@ -85,6 +105,8 @@ rule_text (Panel e) = panel_text e
 rule_text (Tree e) = tree_text e
 rule_text (Line e) = line_text e
 rule_text (Fit e) = fit_text e
+rule_text (CatalogueRule e) = catalogue_text e
+rule_text (Guides e) = guides_text e
 
 -- what is printed of a file that is refused
 abbrev pub refusal_text : BadFile → List ℕ
@@ -112,3 +134,11 @@ AfterJob = After NoMemoryForLine (λ e. record { kind = JobFile; rule = Line e }
 -- one that needs the plan of a text
 abbrev pub AfterPlan : {A : Type 0} → Result PlainPlan LineError → (Plan → Result A BadFile → Type 0) → Result A BadFile → Type 0
 AfterPlan read P = After NoMemoryForLine (λ e. record { kind = PlanFile; rule = Line e }) read (λ p outcome. (plan : Plan) × (plain plan ≡ p) × P plan outcome)
+
+-- one that needs the catalogue of a text
+abbrev pub AfterCatalogue : {A : Type 0} → Result Catalogue CatalogueError → (Catalogue → Result A BadFile → Type 0) → Result A BadFile → Type 0
+AfterCatalogue = After NoMemoryForCatalogue (λ e. record { kind = CatalogueFile; rule = CatalogueRule e })
+
+-- one that needs the fixture of a text
+abbrev pub AfterFixture : {A : Type 0} → Result Fixture LineError → (Fixture → Result A BadFile → Type 0) → Result A BadFile → Type 0
+AfterFixture = After NoMemoryForLine (λ e. record { kind = FixtureFile; rule = Line e })

@@ -6,7 +6,7 @@ use Rattle.carton_base.specs.declared.limits.TheConstants.{WIDEST_MARGIN}
 use Rattle.carton_tool.specs.Files.{Named}
 use Rattle.carton_tool.specs.declared.end.End.{End}
 use Rattle.carton_tool.specs.declared.end.End.TheVariants.{Start, Target}
-use Rattle.carton_tool.specs.declared.files.FileKind.TheVariants.{Dieline, Job, Plan}
+use Rattle.carton_tool.specs.declared.files.FileKind.TheVariants.{Dieline, Job, Plan, Catalogue, Fixture}
 use Rattle.carton_tool.specs.declared.make.TheConstants.{MOST_MADE}
 
 -- the bytes of the words
@@ -21,6 +21,8 @@ pub data Command : Type 0 where
   check : List ℕ → List ℕ → List ℕ → Command
   clearance : List ℕ → List ℕ → List ℕ → Command
   make : ℕ → Command
+  fixtures : List ℕ → List ℕ → List ℕ → List ℕ → Command
+  verify : List ℕ → List ℕ → List ℕ → List ℕ → List ℕ → Command
 
 -- the word for an end of a task
 abbrev pub end_word : End → List ℕ
@@ -35,6 +37,8 @@ spelled (plans dieline job) = codes "plan" ∷ dieline ∷ job ∷ []
 spelled (check dieline job plan) = codes "check" ∷ dieline ∷ job ∷ plan ∷ []
 spelled (clearance dieline job plan) = codes "clearance" ∷ dieline ∷ job ∷ plan ∷ []
 spelled (make count) = codes "make" ∷ decimal count ∷ []
+spelled (fixtures dieline job plan catalogue) = codes "fixture" ∷ dieline ∷ job ∷ plan ∷ catalogue ∷ []
+spelled (verify dieline job plan catalogue fixture) = codes "verify" ∷ dieline ∷ job ∷ plan ∷ catalogue ∷ fixture ∷ []
 
 -- the numbers of a command lie in their ranges
 abbrev pub AreBounded : Command → Type 0
@@ -44,6 +48,8 @@ AreBounded (plans dieline job) = ⊤
 AreBounded (check dieline job plan) = ⊤
 AreBounded (clearance dieline job plan) = ⊤
 AreBounded (make count) = (1 ≤ count) × (count ≤ MOST_MADE)
+AreBounded (fixtures dieline job plan catalogue) = ⊤
+AreBounded (verify dieline job plan catalogue fixture) = ⊤
 
 -- the files that a command reads, in the order of reading
 abbrev pub files_of : Command → List Named
@@ -53,6 +59,9 @@ files_of (plans dieline job) = (record { kind = Dieline; name = dieline }) ∷ (
 files_of (check dieline job plan) = (record { kind = Dieline; name = dieline }) ∷ (record { kind = Job; name = job }) ∷ (record { kind = Plan; name = plan }) ∷ []
 files_of (clearance dieline job plan) = (record { kind = Dieline; name = dieline }) ∷ (record { kind = Job; name = job }) ∷ (record { kind = Plan; name = plan }) ∷ []
 files_of (make count) = []
+files_of (fixtures dieline job plan catalogue) = (record { kind = Dieline; name = dieline }) ∷ (record { kind = Job; name = job }) ∷ (record { kind = Plan; name = plan }) ∷ (record { kind = Catalogue; name = catalogue }) ∷ []
+files_of (verify dieline job plan catalogue fixture) =
+    (record { kind = Dieline; name = dieline }) ∷ (record { kind = Job; name = job }) ∷ (record { kind = Plan; name = plan }) ∷ (record { kind = Catalogue; name = catalogue }) ∷ (record { kind = Fixture; name = fixture }) ∷ []
 
 -- no name is empty
 abbrev pub AreNames : List Named → Type 0

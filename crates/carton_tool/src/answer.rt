@@ -3,12 +3,14 @@ ghost use Rattle.carton_tool.specs.Answers.{text_of, status_of};
 
 use crate::check::{CheckAnswer, check_status, check_text};
 use crate::clearance::{ClearanceAnswer, clearance_status, clearance_text};
+use crate::fixture::{FixtureAnswer, fixture_status, fixture_text};
 use crate::flat::{FlatAnswer, flat_status, flat_text};
 use crate::make::{MakeAnswer, make_status, make_text};
 use crate::plan::{PlanAnswer, plan_status, plan_text};
 use crate::pose::{PoseAnswer, pose_status, pose_text};
 use crate::refusal::{BadFile, refusal_text};
 use crate::status::Status;
+use crate::verify::{VerifyAnswer, verify_status, verify_text};
 use std::alloc::{AllocError, Global};
 
 /// An answer that is printed: the words are no command, a file is bad, or a command's own answer.
@@ -22,6 +24,8 @@ pub enum Answer {
     Check(CheckAnswer),
     Clearance(ClearanceAnswer),
     Make(MakeAnswer),
+    Fixture(FixtureAnswer),
+    Verify(VerifyAnswer),
 }
 
 /// The status that goes with an answer.
@@ -37,6 +41,8 @@ pub fn status(answer: &Answer) -> Status
         Answer::Check(answer) => check_status(*answer),
         Answer::Clearance(answer) => clearance_status(answer),
         Answer::Make(answer) => make_status(answer),
+        Answer::Fixture(answer) => fixture_status(answer),
+        Answer::Verify(answer) => verify_status(*answer),
     }
 }
 
@@ -53,5 +59,7 @@ pub fn text(alloc: Global, answer: &Answer) -> Result<Vec<u8>, AllocError>
         Answer::Check(answer) => Ok(check_text(alloc, *answer)?.into_bytes()),
         Answer::Clearance(answer) => Ok(clearance_text(alloc, answer)?.into_bytes()),
         Answer::Make(answer) => make_text(alloc, answer),
+        Answer::Fixture(answer) => fixture_text(alloc, answer),
+        Answer::Verify(answer) => Ok(verify_text(alloc, *answer)?.into_bytes()),
     }
 }

@@ -15,6 +15,8 @@ pub enum FileKind {
     Dieline,
     Job,
     Plan,
+    Catalogue,
+    Fixture,
 }
 
 impl FileKind {
@@ -26,6 +28,8 @@ impl FileKind {
             FileKind::Dieline => "dieline",
             FileKind::Job => "job",
             FileKind::Plan => "plan",
+            FileKind::Catalogue => "catalogue",
+            FileKind::Fixture => "fixture",
         }
     }
 
@@ -35,7 +39,11 @@ impl FileKind {
         ensures bound { result ≤ 2 ^ 28 }
     {
         match self {
-            FileKind::Dieline | FileKind::Job | FileKind::Plan => MOST_BYTES,
+            FileKind::Dieline
+            | FileKind::Job
+            | FileKind::Plan
+            | FileKind::Catalogue
+            | FileKind::Fixture => MOST_BYTES,
         }
     }
 }

@@ -6,6 +6,7 @@ mod check;
 mod clearance;
 mod end;
 mod files;
+mod fixture;
 mod flat;
 mod halt;
 mod lines;
@@ -17,7 +18,9 @@ mod refusal;
 mod setup;
 mod status;
 mod steady;
+mod supply;
 mod tool;
+mod verify;
 mod words;
 
 pub use printed::{Printed, run_into};

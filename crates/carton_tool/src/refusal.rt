@@ -1,9 +1,10 @@
 ghost use Rattle.std.specs.Prelude.{◌≡◌, IfOk, IfErr, string_bytes};
-ghost use Rattle.carton_tool.specs.Refusals.{fold_text as fold_text_of, panel_text as panel_text_of, tree_text as tree_text_of, line_text as line_text_of, fit_text as fit_text_of, rule_text as rule_text_of, refusal_text as refusal_text_of};
+ghost use Rattle.carton_tool.specs.Refusals.{fold_text as fold_text_of, panel_text as panel_text_of, tree_text as tree_text_of, line_text as line_text_of, fit_text as fit_text_of, catalogue_text as catalogue_text_of, guides_text as guides_text_of, rule_text as rule_text_of, refusal_text as refusal_text_of};
 ghost use Rattle.carton_tool.specs.declared.refusal.Refusal.TheVariants.{NoMemory};
 
 use crate::files::FileKind;
 use carton_base::{EdgeId, OutOfMemory, PanelId};
+use carton_catalogue::{CatalogueError, FitError};
 use carton_fold::FoldError;
 use carton_panels::PanelError;
 use carton_text::{JobError, LineError};
@@ -11,7 +12,7 @@ use carton_tree::TreeError;
 use std::alloc::{AllocError, Global};
 
 /// The rule that a file breaks: it has too many bytes, its text fails, a face of it is no panel, its
-/// panels are no carton, or it doesn't fit the dieline.
+/// panels are no carton, or it doesn't fit the files before it.
 #[derive(Clone, Copy, Debug, PartialEq, Eq)]
 pub enum Rule {
     TooLong,
@@ -20,6 +21,8 @@ pub enum Rule {
     Tree(TreeError),
     Line(LineError),
     Fit(JobError),
+    Catalogue(CatalogueError),
+    Guides(FitError),
 }
 
 /// A file that is refused.
@@ -123,6 +126,30 @@ fn fit_text(alloc: Global, e: JobError) -> Result<String, AllocError>
     }
 }
 
+fn catalogue_text(alloc: Global, e: CatalogueError) -> Result<String, AllocError>
+    ensures { IfOk result (λ text. string_bytes text ≡ catalogue_text_of e) }
+{
+    match e {
+        CatalogueError::Line(e) => line_text(alloc, e),
+        CatalogueError::NoGuide => String::from_str(alloc, "no guide"),
+        CatalogueError::Memory => String::from_str(alloc, "out of memory"),
+    }
+}
+
+fn guides_text(alloc: Global, e: FitError) -> Result<String, AllocError>
+    ensures { IfOk result (λ text. string_bytes text ≡ guides_text_of e) }
+{
+    match e {
+        FitError::OtherCreases => String::from_str(alloc, "other creases"),
+        FitError::NotAJoint(guide) => format!(in alloc; "not a joint guide {guide}"),
+        FitError::BadWindow(guide) => format!(in alloc; "bad window guide {guide}"),
+        FitError::BandTooWide(guide) => format!(in alloc; "band too wide guide {guide}"),
+        FitError::ProbeOutside(guide, probe) => {
+            format!(in alloc; "probe outside guide {guide} probe {probe}")
+        }
+    }
+}
+
 fn rule_text(alloc: Global, rule: Rule) -> Result<String, AllocError>
     ensures { IfOk result (λ text. string_bytes text ≡ rule_text_of rule) }
 {
@@ -133,6 +160,8 @@ fn rule_text(alloc: Global, rule: Rule) -> Result<String, AllocError>
         Rule::Tree(e) => tree_text(alloc, e),
         Rule::Line(e) => line_text(alloc, e),
         Rule::Fit(e) => fit_text(alloc, e),
+        Rule::Catalogue(e) => catalogue_text(alloc, e),
+        Rule::Guides(e) => guides_text(alloc, e),
     }
 }
 

@@ -12,6 +12,7 @@ use crate::answer::{Answer, status, text};
 use crate::check::check_answer;
 use crate::clearance::clearance_answer;
 use crate::files::{Unread, bytes_at, read_all};
+use crate::fixture::fixture_answer;
 use crate::flat::flat_answer;
 use crate::halt::Halt;
 use crate::make::make_answer;
@@ -19,6 +20,7 @@ use crate::plan::plan_answer;
 use crate::pose::pose_answer;
 use crate::refusal::{BadFile, Refusal, Rule};
 use crate::status::Status;
+use crate::verify::verify_answer;
 use crate::words::{Asked, command_of, wanted_by};
 use carton_base::{Listed, OutOfMemory};
 use carton_io::{Shelf, Sink, SinkFault};
@@ -58,6 +60,21 @@ fn outcome_of(alloc: Global, command: Asked<'_>, files: &[Listed<u8>]) -> Result
             bytes_at(files, 2),
         )?)),
         Asked::Make { count } => Ok(Answer::Make(make_answer(alloc, count)?)),
+        Asked::Fixture { .. } => Ok(Answer::Fixture(fixture_answer(
+            alloc,
+            bytes_at(files, 0),
+            bytes_at(files, 1),
+            bytes_at(files, 2),
+            bytes_at(files, 3),
+        )?)),
+        Asked::Verify { .. } => Ok(Answer::Verify(verify_answer(
+            alloc,
+            bytes_at(files, 0),
+            bytes_at(files, 1),
+            bytes_at(files, 2),
+            bytes_at(files, 3),
+            bytes_at(files, 4),
+        )?)),
     }
 }
 

@@ -1,6 +1,6 @@
 ghost use Rattle.std.specs.Prelude.{◌≡◌, ◌↔◌, ◌≤◌, ◌≢◌, ℕ, List, [], IsTrue, IfOk, Option, Some, None, map, option_map, MatchOption};
 ghost use Rattle.std.specs.Fmt.{decimal};
-ghost use Rattle.carton_tool.specs.Words.{texts, flat, pose, plans, check, clearance, make, end_word, files_of, IsCommand, IsFound};
+ghost use Rattle.carton_tool.specs.Words.{texts, flat, pose, plans, check, clearance, make, fixtures, verify, end_word, files_of, IsCommand, IsFound};
 ghost use Rattle.carton_tool.specs.declared.end.End.{End};
 ghost use Rattle.carton_tool.specs.Asked.{asked, named};
 
@@ -38,6 +38,19 @@ pub enum Asked<'a> {
     },
     Make {
         count: u16,
+    },
+    Fixture {
+        dieline: &'a str,
+        job: &'a str,
+        plan: &'a str,
+        catalogue: &'a str,
+    },
+    Verify {
+        dieline: &'a str,
+        job: &'a str,
+        plan: &'a str,
+        catalogue: &'a str,
+        fixture: &'a str,
     },
 }
 
@@ -208,6 +221,58 @@ fn make_in<'a>(alloc: Global, words: &'a [String]) -> Result<Option<Asked<'a>>, 
     }
 }
 
+// The command `fixture` where the words are one.
+fn fixture_in<'a>(words: &'a [String]) -> Option<Asked<'a>>
+    ensures { MatchOption result
+        ((dieline job plan catalogue : List ℕ) → ¬ (IsCommand (texts words.now) (fixtures dieline job plan catalogue)))
+        (λ a. IsCommand (texts words.now) (asked a)) }
+{
+    let [command, dieline, job, plan, catalogue] = words else {
+        return None;
+    };
+    if !is_same(command.as_str(), "fixture")
+        || !is_name(dieline.as_str())
+        || !is_name(job.as_str())
+        || !is_name(plan.as_str())
+        || !is_name(catalogue.as_str())
+    {
+        return None;
+    }
+    Some(Asked::Fixture {
+        dieline: dieline.as_str(),
+        job: job.as_str(),
+        plan: plan.as_str(),
+        catalogue: catalogue.as_str(),
+    })
+}
+
+// The command `verify` where the words are one.
+fn verify_in<'a>(words: &'a [String]) -> Option<Asked<'a>>
+    ensures { MatchOption result
+        ((dieline job plan catalogue fixture : List ℕ) → ¬ (IsCommand (texts words.now) (verify dieline job plan catalogue fixture)))
+        (λ a. IsCommand (texts words.now) (asked a)) }
+{
+    let [command, dieline, job, plan, catalogue, fixture] = words else {
+        return None;
+    };
+    if !is_same(command.as_str(), "verify")
+        || !is_name(dieline.as_str())
+        || !is_name(job.as_str())
+        || !is_name(plan.as_str())
+        || !is_name(catalogue.as_str())
+        || !is_name(fixture.as_str())
+    {
+        return None;
+    }
+    Some(Asked::Verify {
+        dieline: dieline.as_str(),
+        job: job.as_str(),
+        plan: plan.as_str(),
+        catalogue: catalogue.as_str(),
+        fixture: fixture.as_str(),
+    })
+}
+
 /// The command that the words are; None where they are none.
 pub fn command_of<'a>(alloc: Global, words: &'a [String]) -> Result<Option<Asked<'a>>, OutOfMemory>
     ensures { IfOk result (λ c. IsFound (texts words.now) (option_map asked c)) }
@@ -229,6 +294,12 @@ pub fn command_of<'a>(alloc: Global, words: &'a [String]) -> Result<Option<Asked
     }
     if let Some(make) = make_in(alloc, words)? {
         return Ok(Some(make));
+    }
+    if let Some(fixture) = fixture_in(words) {
+        return Ok(Some(fixture));
+    }
+    if let Some(verify) = verify_in(words) {
+        return Ok(Some(verify));
     }
     Ok(None)
 }
@@ -271,5 +342,56 @@ pub fn wanted_by<'a>(alloc: Global, command: Asked<'a>) -> Result<Vec<Wanted<'a>
             ]?,
         ),
         Asked::Make { .. } => Ok(Vec::new(alloc)),
+        Asked::Fixture {
+            dieline,
+            job,
+            plan,
+            catalogue,
+        } => Ok(vec![in alloc;
+            Wanted {
+                kind: FileKind::Dieline,
+                name: dieline,
+            },
+            Wanted {
+                kind: FileKind::Job,
+                name: job,
+            },
+            Wanted {
+                kind: FileKind::Plan,
+                name: plan,
+            },
+            Wanted {
+                kind: FileKind::Catalogue,
+                name: catalogue,
+            },
+        ]?),
+        Asked::Verify {
+            dieline,
+            job,
+            plan,
+            catalogue,
+            fixture,
+        } => Ok(vec![in alloc;
+            Wanted {
+                kind: FileKind::Dieline,
+                name: dieline,
+            },
+            Wanted {
+                kind: FileKind::Job,
+                name: job,
+            },
+            Wanted {
+                kind: FileKind::Plan,
+                name: plan,
+            },
+            Wanted {
+                kind: FileKind::Catalogue,
+                name: catalogue,
+            },
+            Wanted {
+                kind: FileKind::Fixture,
+                name: fixture,
+            },
+        ]?),
     }
 }

@@ -3,10 +3,12 @@ use Rattle.std.proofs.lemmas.Result.{err_from_is_err_and}
 use Rattle.carton_tool.specs.Check.{IsCheck}
 use Rattle.carton_tool.specs.Clearance.{IsClearance}
 use Rattle.carton_tool.specs.Files.{file_at}
+use Rattle.carton_tool.specs.Fixture.{IsFixtureOutcome}
 use Rattle.carton_tool.specs.Plan.{IsPlanning}
 use Rattle.carton_tool.specs.Pose.{IsPoseOutcome}
 use Rattle.carton_tool.specs.Refusals.{IsOutcome}
-use Rattle.carton_tool.specs.declared.answer.Answer.TheVariants.{Pose, Plan, Check, Clearance}
+use Rattle.carton_tool.specs.Verify.{IsVerifyOutcome}
+use Rattle.carton_tool.specs.declared.answer.Answer.TheVariants.{Pose, Plan, Check, Clearance, Fixture, Verify}
 use Rattle.carton_tool.proofs.Owning.{own_refusal}
 use Rattle.carton_tool.proofs.tool.outcome_of.Goals as goal
 
@@ -76,3 +78,42 @@ returns-in_ok-clearance_answer-in-Clearance c =
 
 pub returns-in_ok-make_answer-in-Make : goal.returns-in_ok-make_answer-in-Make
 returns-in_ok-make_answer-in-Make c = rw c.in-Make.is (Ok c.in_ok-make_answer-in-Make.field-0, c.in_ok-make_answer-in-Make.ensures, refl)
+
+pub returns-in_err-fixture_answer-in-Fixture : goal.returns-in_err-fixture_answer-in-Fixture
+returns-in_err-fixture_answer-in-Fixture c =
+    let p = err_from_is_err_and c.from_residual-in_err-fixture_answer-in-Fixture.result c.from_residual-in_err-fixture_answer-in-Fixture.ensures.1 in
+    let files = c.args.files.now in
+    let e = c.in_err-fixture_answer-in-Fixture.field-0.0 in
+    let first = subst (λ d. IsOutcome (IsFixtureOutcome d c.bytes_at-in-Fixture-2.result.now c.bytes_at-in-Fixture-3.result.now c.bytes_at-in-Fixture-4.result.now) (Err e)) c.bytes_at-in-Fixture.ensures c.in_err-fixture_answer-in-Fixture.ensures in
+    let second = subst (λ j. IsOutcome (IsFixtureOutcome (file_at 0 files) j c.bytes_at-in-Fixture-3.result.now c.bytes_at-in-Fixture-4.result.now) (Err e)) c.bytes_at-in-Fixture-2.ensures first in
+    let third = subst (λ p. IsOutcome (IsFixtureOutcome (file_at 0 files) (file_at 1 files) p c.bytes_at-in-Fixture-4.result.now) (Err e)) c.bytes_at-in-Fixture-3.ensures second in
+    let h = subst (λ k. IsOutcome (IsFixtureOutcome (file_at 0 files) (file_at 1 files) (file_at 2 files) k) (Err e)) c.bytes_at-in-Fixture-4.ensures third in
+    rw (c.in-Fixture.is, p.1, p.2) (own_refusal Fixture (IsFixtureOutcome (file_at 0 files) (file_at 1 files) (file_at 2 files) (file_at 3 files)) e h)
+
+pub returns-in_ok-fixture_answer-in-Fixture : goal.returns-in_ok-fixture_answer-in-Fixture
+returns-in_ok-fixture_answer-in-Fixture c =
+    let files = c.args.files.now in
+    let P = IsFixtureOutcome (file_at 0 files) (file_at 1 files) (file_at 2 files) (file_at 3 files) in
+    let h : IsOutcome P (Ok c.in_ok-fixture_answer-in-Fixture.field-0) =
+    rw (sym c.bytes_at-in-Fixture.ensures, sym c.bytes_at-in-Fixture-2.ensures, sym c.bytes_at-in-Fixture-3.ensures, sym c.bytes_at-in-Fixture-4.ensures) c.in_ok-fixture_answer-in-Fixture.ensures in
+    rw c.in-Fixture.is (Ok c.in_ok-fixture_answer-in-Fixture.field-0, h, refl)
+
+pub returns-in_err-verify_answer-in-Verify : goal.returns-in_err-verify_answer-in-Verify
+returns-in_err-verify_answer-in-Verify c =
+    let p = err_from_is_err_and c.from_residual-in_err-verify_answer-in-Verify.result c.from_residual-in_err-verify_answer-in-Verify.ensures.1 in
+    let files = c.args.files.now in
+    let e = c.in_err-verify_answer-in-Verify.field-0.0 in
+    let first = subst (λ d. IsOutcome (IsVerifyOutcome d c.bytes_at-in-Verify-2.result.now c.bytes_at-in-Verify-3.result.now c.bytes_at-in-Verify-4.result.now c.bytes_at-in-Verify-5.result.now) (Err e)) c.bytes_at-in-Verify.ensures c.in_err-verify_answer-in-Verify.ensures in
+    let second = subst (λ j. IsOutcome (IsVerifyOutcome (file_at 0 files) j c.bytes_at-in-Verify-3.result.now c.bytes_at-in-Verify-4.result.now c.bytes_at-in-Verify-5.result.now) (Err e)) c.bytes_at-in-Verify-2.ensures first in
+    let third = subst (λ p. IsOutcome (IsVerifyOutcome (file_at 0 files) (file_at 1 files) p c.bytes_at-in-Verify-4.result.now c.bytes_at-in-Verify-5.result.now) (Err e)) c.bytes_at-in-Verify-3.ensures second in
+    let fourth = subst (λ k. IsOutcome (IsVerifyOutcome (file_at 0 files) (file_at 1 files) (file_at 2 files) k c.bytes_at-in-Verify-5.result.now) (Err e)) c.bytes_at-in-Verify-4.ensures third in
+    let h = subst (λ f. IsOutcome (IsVerifyOutcome (file_at 0 files) (file_at 1 files) (file_at 2 files) (file_at 3 files) f) (Err e)) c.bytes_at-in-Verify-5.ensures fourth in
+    rw (c.in-Verify.is, p.1, p.2) (own_refusal Verify (IsVerifyOutcome (file_at 0 files) (file_at 1 files) (file_at 2 files) (file_at 3 files) (file_at 4 files)) e h)
+
+pub returns-in_ok-verify_answer-in-Verify : goal.returns-in_ok-verify_answer-in-Verify
+returns-in_ok-verify_answer-in-Verify c =
+    let files = c.args.files.now in
+    let P = IsVerifyOutcome (file_at 0 files) (file_at 1 files) (file_at 2 files) (file_at 3 files) (file_at 4 files) in
+    let h : IsOutcome P (Ok c.in_ok-verify_answer-in-Verify.field-0) =
+    rw (sym c.bytes_at-in-Verify.ensures, sym c.bytes_at-in-Verify-2.ensures, sym c.bytes_at-in-Verify-3.ensures, sym c.bytes_at-in-Verify-4.ensures, sym c.bytes_at-in-Verify-5.ensures) c.in_ok-verify_answer-in-Verify.ensures in
+    rw c.in-Verify.is (Ok c.in_ok-verify_answer-in-Verify.field-0, h, refl)

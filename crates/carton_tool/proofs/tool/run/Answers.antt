@@ -7,6 +7,7 @@ use Rattle.carton_tool.proofs.Headline.{tells_safe, tells_least, found_in_reach}
 use Rattle.carton_tool.proofs.MadeSound.{made_where_told}
 use Rattle.carton_tool.proofs.OneAnswer.{determined}
 use Rattle.carton_tool.proofs.Statuses.{no_read_fault}
+use Rattle.carton_tool.proofs.NoWords.{no_command_where_told}
 use Rattle.carton_tool.proofs.tool.run.Goals as goal
 
 pub returns-in-Ok-clause-wrote_part : goal.returns-in-Ok-clause-wrote_part
@@ -70,3 +71,19 @@ returns-in-Ok-clause-made_sound g c = λ done.
     let a = c.in-Ok.ensures.answered in
     let told = c.say.ensures.said (λ e. absurd (cc)) (λ e. absurd (cc)) in
     made_where_told (texts c.args.words.now) a.0 c.in-Ok.answer (Appends (g.K.Sink.written c.args.sink.now) (g.K.Sink.written c.say.new.sink)) a.2 told.1
+
+pub returns-in-Ok-clause-bad_words : goal.returns-in-Ok-clause-bad_words
+returns-in-Ok-clause-bad_words g c = λ bad.
+    let a = c.in-Ok.ensures.answered in
+    let told = c.say.ensures.said (λ e. absurd (cc)) (λ e. absurd (cc)) in
+    no_command_where_told (texts c.args.words.now) a.0 c.in-Ok.answer a.2 (sym told.0 ∙ bad)
+
+pub returns-in-Ok-clause-read_fault : goal.returns-in-Ok-clause-read_fault
+returns-in-Ok-clause-read_fault g c = λ fault.
+    let told = c.say.ensures.said (λ e. absurd (cc)) (λ e. absurd (cc)) in
+    absurd (no_read_fault c.in-Ok.answer (sym told.0 ∙ fault))
+
+pub returns-in-Ok-clause-read_name : goal.returns-in-Ok-clause-read_name
+returns-in-Ok-clause-read_name g c = λ fault.
+    let told = c.say.ensures.said (λ e. absurd (cc)) (λ e. absurd (cc)) in
+    absurd (no_read_fault c.in-Ok.answer (sym told.0 ∙ fault))
