@@ -12,10 +12,10 @@ use Rattle.carton_base.specs.declared.limits.TheConstants.{FARTHEST}
 use Rattle.carton_base.specs.Steps.{◌>>=◌, refuse_if, entries_from}
 use Rattle.carton_base.proofs.Steps.{both, same_ok, not_refused, only_if, count_entries, all_entries}
 use Rattle.carton_model.specs.Dielines.{IsNear}
-use Rattle.carton_text.specs.declared.fault.Fault.{Fault}
-use Rattle.carton_text.specs.declared.fault.Fault.TheVariants.{BadLine, Range}
-use Rattle.carton_text.specs.Lines.{Gives, words_of}
-use Rattle.carton_text.specs.Numbers.{numbers_in, from_to, at_most}
+use Rattle.carton_lines.specs.declared.fault.Fault.{Fault}
+use Rattle.carton_lines.specs.declared.fault.Fault.TheVariants.{BadLine, Range}
+use Rattle.carton_lines.specs.Lines.{Gives, words_of}
+use Rattle.carton_lines.specs.Numbers.{numbers_in, from_to, at_most}
 use Rattle.carton_text.proofs.Kept.{within}
 use Rattle.carton_catalogue.specs.declared.limits.TheConstants.{FARTHEST_CORNER, LAST_EDGE, LAST_MOVE, MOST_BODIES, MOST_PROBES, WIDEST_BAND}
 use Rattle.carton_catalogue.specs.declared.lines.Keyword.{Keyword}

@@ -1,14 +1,14 @@
 -- A catalogue has one answer: of two answers that are allowed, both say that it fits, or both are one refusal.
 use Rattle.std.proofs.Common.{◌≡◌, ◌⊎◌, inl, inr, ℕ, List, Option, Some, None, IfSome, IsSomeAnd, slice_get, refl, sym, ap, ◌∙◌, subst, arith}
 use Rattle.std.proofs.lemmas.Bool.{cases_lt}
-use Rattle.std.proofs.lemmas.Option.{same_Some}
 use Rattle.carton_base.specs.declared.bodies.Guide.{Guide}
 use Rattle.carton_base.specs.declared.motion.State.{State}
 use Rattle.carton_text.specs.declared.plan.Plan.{Plan}
 use Rattle.carton_text.specs.declared.task.Task.{Task}
-use Rattle.carton_tree.specs.declared.joint.Joint.{Joint}
+use Rattle.carton_tree.proofs.Flaps.{one_flap as one_place}
+use Rattle.carton_tree.proofs.OneRefusal.{least_once}
 use Rattle.carton_tree.specs.Rules.{IsLeast}
-use Rattle.carton_tree.specs.Trees.{Tree, joint_of, Hangs}
+use Rattle.carton_tree.specs.Trees.{Tree}
 use Rattle.carton_catalogue.specs.declared.catalogue.Catalogue.{Catalogue}
 use Rattle.carton_catalogue.specs.declared.fit_error.FitError.{FitError}
 use Rattle.carton_catalogue.specs.declared.fit_error.FitError.TheVariants.{OtherCreases, NotAJoint, BadWindow, BandTooWide, ProbeOutside}
@@ -18,24 +18,11 @@ use Rattle.carton_catalogue.specs.Fits.{IsGuided, KeepsBand, IsOnPanel, IsOutsid
 use Rattle.carton_catalogue.specs.FitSteps.{told_of}
 use Rattle.carton_catalogue.proofs.Misfits.{not_outside, some_at}
 
-pub least_once : (P : ℕ → Type 0) (a b : ℕ) → IsLeast P a → IsLeast P b → a ≡ b
-least_once P a b h k = elim (cases_lt a b) [
-  | inl lt ↦ absurd (k.1 a lt h.0)
-  | inr le ↦ elim (cases_lt b a) [
-    | inl lt ↦ absurd (h.1 b lt k.0)
-    | inr back ↦ omega (arith, le, back)
-  ]
-]
-
-one_place : (o : Option Joint) (k l : ℕ) → IsSomeAnd o (λ j. j.turn.place ≡ Some k) → IsSomeAnd o (λ j. j.turn.place ≡ Some l) → k ≡ l
-one_place None k l h i = absurd h
-one_place (Some j) k l h i = same_Some k l (sym h ∙ i)
-
 pub one_flap : (t : Tree) (e f g k l : ℕ) → IsGuided t e f k → IsGuided t e g l → f ≡ g
-one_flap t e f g k l h i = least_once (Hangs t.joints e) f g h.hangs i.hangs
+one_flap t e f g k l h i = (one_place t.joints e f k g l h.hangs h.free i.hangs i.free).0
 
 pub one_joint : (t : Tree) (e f g k l : ℕ) → IsGuided t e f k → IsGuided t e g l → k ≡ l
-one_joint t e f g k l h i = one_place (joint_of t.joints g) k l (subst (λ p. IsSomeAnd (joint_of t.joints p) (λ j. j.turn.place ≡ Some k)) (one_flap t e f g k l h i) h.free) i.free
+one_joint t e f g k l h i = (one_place t.joints e f k g l h.hangs h.free i.hangs i.free).1
 
 -- a guide that fits has no misfit
 fits_well : (t : Tree) (states : List State) (g : Guide) (m : Misfit) → FitsGuide t states g → IsMisfit t states g m → ⊥

@@ -6,10 +6,10 @@ use Rattle.carton_base.specs.declared.bodies.Cuboid.{Cuboid}
 use Rattle.carton_base.specs.declared.bodies.Guide.{Guide}
 use Rattle.carton_base.specs.declared.dieline.Point.{Point}
 use Rattle.carton_base.specs.Steps.{◌>>=◌, refuse_if, entries_from}
-use Rattle.carton_text.specs.declared.fault.Fault.{Fault}
-use Rattle.carton_text.specs.declared.fault.Fault.TheVariants.{BadLine, Range}
-use Rattle.carton_text.specs.Lines.{words_of}
-use Rattle.carton_text.specs.Numbers.{numbers_in, from_to, at_most}
+use Rattle.carton_lines.specs.declared.fault.Fault.{Fault}
+use Rattle.carton_lines.specs.declared.fault.Fault.TheVariants.{BadLine, Range}
+use Rattle.carton_lines.specs.Lines.{words_of}
+use Rattle.carton_lines.specs.Numbers.{numbers_in, from_to, at_most}
 use Rattle.carton_catalogue.specs.declared.lines.Keyword.{Keyword}
 use Rattle.carton_catalogue.specs.declared.lines.Keyword.TheVariants.{Stroke, Body, Row, Guide as GuideWord}
 use Rattle.carton_catalogue.specs.declared.lines.CatalogueLine.{CatalogueLine}

@@ -1,20 +1,19 @@
 -- The catalogue of a text, or the first rule that fails.
-use Rattle.std.specs.Prelude.{ℕ, ◌+◌, ℤ, pos, ◌++◌, List, [], ◌∷◌, length, nat_eq, nat_lt, nat_le, bytes_eq, is_some, if◌then◌else◌, Some, None, unwrap_or, Result, Ok, Err, codes}
+use Rattle.std.specs.Prelude.{ℕ, ◌+◌, ℤ, pos, ◌++◌, List, [], ◌∷◌, length, nat_eq, nat_lt, nat_le, bytes_eq, is_some, true, if◌then◌else◌, Some, None, unwrap_or, Result, Ok, Err, codes}
 use Rattle.carton_base.specs.declared.bodies.Cuboid.{Cuboid}
 use Rattle.carton_base.specs.declared.bodies.Guide.{Guide}
 use Rattle.carton_base.specs.Steps.{◌>>=◌}
-use Rattle.carton_text.specs.declared.fault.Fault.{Fault}
-use Rattle.carton_text.specs.declared.fault.Fault.TheVariants.{BadLine, Range, Duplicate}
-use Rattle.carton_text.specs.declared.fault.LineError.{LineError}
-use Rattle.carton_text.specs.declared.fault.LineError.TheVariants.{BadLine as BadLineAt, Range as RangeAt, Duplicate as DuplicateAt, NoEnd, Memory as OutOfMemory}
-use Rattle.carton_text.specs.Lines.{free_lines, is_passed_over, read_lines}
+use Rattle.carton_lines.specs.declared.fault.Fault.{Fault}
+use Rattle.carton_lines.specs.declared.fault.Fault.TheVariants.{BadLine, Range, Duplicate}
+use Rattle.carton_lines.specs.declared.fault.LineError.{LineError}
+use Rattle.carton_lines.specs.declared.fault.LineError.TheVariants.{BadLine as BadLineAt, Range as RangeAt, Duplicate as DuplicateAt, NoEnd, Memory as OutOfMemory}
+use Rattle.carton_lines.specs.Grammars.{Grammar}
+use Rattle.carton_lines.specs.Readings.{freely_read}
 use Rattle.carton_catalogue.specs.declared.catalogue.Catalogue.{Catalogue}
 use Rattle.carton_catalogue.specs.declared.catalogue_error.CatalogueError.{CatalogueError}
 use Rattle.carton_catalogue.specs.declared.catalogue_error.CatalogueError.TheVariants.{Line, NoGuide, Memory}
 use Rattle.carton_catalogue.specs.declared.lines.CatalogueLine.{CatalogueLine}
 use Rattle.carton_catalogue.specs.declared.lines.CatalogueLine.TheVariants.{Stroke, Bodies, Guide as GuideLine}
-use Rattle.carton_catalogue.specs.declared.catalogue_text.Reading.{Reading}
-use Rattle.carton_catalogue.specs.declared.catalogue_text.Reading.TheVariants.{Before, Within, Ended}
 use Rattle.carton_catalogue.specs.declared.draft.CatalogueDraft.{CatalogueDraft}
 use Rattle.carton_catalogue.specs.declared.limits.TheConstants.{MOST_BODIES, MOST_GUIDES}
 use Rattle.carton_catalogue.specs.CatalogueLines.{line_in}
@@ -41,25 +40,21 @@ add d (Stroke stroke) = with_stroke d stroke
 add d (Bodies more) = with_bodies d more
 add d (GuideLine guide) = with_guide d guide
 
--- a line that isn't passed over, after those that were read
-unfoldable pub next_line : Reading → List ℕ → Result Reading Fault
-next_line Before line = if bytes_eq line (codes "carton catalogue 1") then Ok (Within new_draft) else Err BadLine
-next_line (Within d) line = if bytes_eq line (codes "end") then Ok (Ended d) else (line_in line >>= add d >>= λ e. Ok (Within e))
-next_line (Ended d) line = Err BadLine
+-- the first line
+abbrev pub begun : List ℕ → Result CatalogueDraft Fault
+begun line = if bytes_eq line (codes "carton catalogue 1") then Ok new_draft else Err BadLine
 
--- a line after those that were read: an empty line or a comment changes nothing, whatever its number
-unfoldable pub step : Reading → ℕ → List ℕ → Result Reading Fault
-step reading n line = if is_passed_over line then Ok reading else next_line reading line
+-- a line after the first, whatever its number
+abbrev pub later_line : CatalogueDraft → ℕ → List ℕ → Result CatalogueDraft Fault
+later_line d n line = line_in line >>= add d
+
+-- the lines of a catalogue, after any of which `end` may stand
+abbrev pub catalogue_lines : Grammar CatalogueDraft
+catalogue_lines = record { begin = begun; take = later_line; may_end = λ d. true }
 
 -- the catalogue that the lines up to `end` told, if one of them is a guide
 abbrev pub told : CatalogueDraft → Result Catalogue CatalogueError
 told d = if nat_eq (length d.guides) 0 then Err NoGuide else Ok (record { stroke = unwrap_or d.stroke (pos 0 ∷ pos 0 ∷ pos 0 ∷ []); bodies = d.bodies; guides = d.guides })
-
--- what the lines told in all, if one of them was `end`
-abbrev pub finished : Reading → Result Catalogue CatalogueError
-finished Before = Err (Line NoEnd)
-finished (Within d) = Err (Line NoEnd)
-finished (Ended d) = told d
 
 -- a fault of the lines as one of a catalogue
 abbrev pub of_a_line : LineError → CatalogueError
@@ -70,10 +65,10 @@ of_a_line NoEnd = Line NoEnd
 of_a_line OutOfMemory = Memory
 
 -- what the lines gave, with their fault as one of a catalogue
-abbrev pub of_lines : Result Reading LineError → Result Reading CatalogueError
-of_lines (Ok reading) = Ok reading
+abbrev pub of_lines : Result CatalogueDraft LineError → Result CatalogueDraft CatalogueError
+of_lines (Ok d) = Ok d
 of_lines (Err fault) = Err (of_a_line fault)
 
 -- the catalogue of the bytes of a text
 unfoldable pub catalogue_of : List ℕ → Result Catalogue CatalogueError
-catalogue_of bytes = of_lines (read_lines step Before 0 (free_lines bytes)) >>= finished
+catalogue_of bytes = of_lines (freely_read catalogue_lines bytes) >>= told

@@ -1,14 +1,14 @@
 ghost use Rattle.std.specs.Prelude.{◌≡◌, ◌≤◌, All, length, unsigned_abs};
 ghost use Rattle.std.specs.List.{range_with_len};
 ghost use Rattle.carton_base.specs.Steps.{entries_from};
-ghost use Rattle.carton_text.specs.Lines.{Gives};
+ghost use Rattle.carton_lines.specs.Lines.{Gives};
 ghost use Rattle.carton_catalogue.specs.CatalogueLines.{is_span as is_span_in, is_body as is_body_in, body as body_in, cuboid_of, moved as moved_in, box_of_row, body_of_row, stroke_in, bodies_in, row_in};
 ghost use Rattle.carton_catalogue.specs.declared.limits.TheConstants.{FARTHEST_CORNER, MOST_BODIES};
 
 use crate::limits::{FARTHEST_CORNER, MOST_BODIES};
 use crate::values::coordinates;
 use carton_base::{Cuboid, Listed};
-use carton_text::{Fault, Numeral};
+use carton_lines::{Fault, Numeral};
 use std::alloc::Global;
 
 #[tactic(auto, unfolding(crate::specs::CatalogueLines::is_span))]

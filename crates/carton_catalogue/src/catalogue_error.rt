@@ -1,7 +1,7 @@
 ghost use Rattle.std.specs.Prelude.{◌≡◌};
 ghost use Rattle.carton_catalogue.specs.Catalogues.{of_a_line};
 
-use carton_text::LineError;
+use carton_lines::LineError;
 use thiserror::Error;
 
 /// The first rule that the text of a catalogue breaks.

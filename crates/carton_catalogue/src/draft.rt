@@ -1,5 +1,5 @@
 ghost use Rattle.std.specs.Prelude.{◌≡◌, ◌++◌, Ok};
-ghost use Rattle.carton_text.specs.Lines.{Gives};
+ghost use Rattle.carton_lines.specs.Lines.{Gives};
 ghost use Rattle.carton_catalogue.specs.Catalogues.{new_draft, with_stroke as with_stroke_in, with_bodies as with_bodies_in, with_guide as with_guide_in, add as add_in, told as told_in};
 
 use crate::catalogue::Catalogue;
@@ -7,7 +7,7 @@ use crate::catalogue_error::CatalogueError;
 use crate::limits::{MOST_BODIES, MOST_GUIDES};
 use crate::lines::CatalogueLine;
 use carton_base::{Cuboid, Guide, Listed};
-use carton_text::Fault;
+use carton_lines::Fault;
 use std::alloc::Global;
 
 /// What the lines of a catalogue have told so far.

@@ -1,11 +1,11 @@
 ghost use Rattle.std.specs.Prelude.{◌≡◌, IfOk};
-ghost use Rattle.carton_text.specs.Lines.{Gives};
+ghost use Rattle.carton_lines.specs.Lines.{Gives};
 ghost use Rattle.carton_catalogue.specs.CatalogueLines.{points_of, probes_in, guide_in};
 
 use crate::limits::{LAST_EDGE, LAST_MOVE, MOST_PROBES, WIDEST_BAND};
 use crate::values::values;
 use carton_base::{EdgeId, FARTHEST, Guide, Listed, Point};
-use carton_text::{Fault, Numeral};
+use carton_lines::{Fault, Numeral};
 use std::alloc::{AllocError, Global};
 
 // The points of numbers that are taken two by two.

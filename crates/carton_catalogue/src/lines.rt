@@ -1,11 +1,11 @@
 ghost use Rattle.std.specs.Prelude.{◌≡◌, map};
-ghost use Rattle.carton_text.specs.Lines.{Gives};
+ghost use Rattle.carton_lines.specs.Lines.{Gives};
 ghost use Rattle.carton_catalogue.specs.CatalogueLines.{keyword_in, numbered, worded, line_in};
 
 use crate::boxes::{row, single, stroke};
 use crate::guides::guide_of;
 use carton_base::{Cuboid, Guide, Listed};
-use carton_text::{Fault, Numeral, numbers, words};
+use carton_lines::{Fault, Numeral, numbers, words};
 use std::alloc::Global;
 
 /// The first word of a line of a catalogue.

@@ -1,11 +1,11 @@
 ghost use Rattle.std.specs.Prelude.{◌≡◌, ◌≤◌, ◌^◌, All, length, unsigned_abs, IfOk};
 ghost use Rattle.carton_base.specs.Steps.{entries_from};
-ghost use Rattle.carton_text.specs.Lines.{Gives};
-ghost use Rattle.carton_text.specs.Numbers.{at_most};
+ghost use Rattle.carton_lines.specs.Lines.{Gives};
+ghost use Rattle.carton_lines.specs.Numbers.{at_most};
 ghost use Rattle.carton_catalogue.specs.CatalogueLines.{coordinates_in};
 
 use crate::limits::FARTHEST_CORNER;
-use carton_text::{Fault, Numeral};
+use carton_lines::{Fault, Numeral};
 use std::alloc::Global;
 
 fn value(most: u32, number: &Numeral<'_>) -> Result<i32, Fault>

@@ -1,4 +1,6 @@
 use carton_base::{Cuboid, EdgeId, Guide, Listed, Point};
+use carton_cases::bodies::{LOWER_RAIL, UPPER_RAIL};
+use carton_cases::catalogues::RAILS;
 use carton_catalogue::{Catalogue, read_catalogue};
 use std::alloc::{AllocError, Global};
 
@@ -35,11 +37,9 @@ fn over_y(x: (i32, i32), y: (i32, i32), z: (i32, i32)) -> Cuboid {
 #[test]
 fn two_rails(rt: HostRuntime) -> Result<(), AllocError> {
     let alloc = rt.alloc();
-    let text =
-        "carton catalogue 1\nstroke 0 -200 0\nbody 175 192 640 860 15 48\nbody 120 145 640 860 76 92\nguide 6 3 3 2 190 50\nend\n";
     let mut bodies = Listed::new(alloc);
-    bodies.push(over_y((175, 192), (640, 860), (15, 48)))?;
-    bodies.push(over_y((120, 145), (640, 860), (76, 92)))?;
+    bodies.push(LOWER_RAIL)?;
+    bodies.push(UPPER_RAIL)?;
     let mut guides = Listed::new(alloc);
     guides.push(guide(alloc, 3, 3, 2, Point { x: 190, y: 50 })?)?;
     let wanted = Catalogue {
@@ -47,7 +47,7 @@ fn two_rails(rt: HostRuntime) -> Result<(), AllocError> {
         bodies,
         guides,
     };
-    assert!(rt; read_catalogue(alloc, text.as_bytes()) == Ok(wanted));
+    assert!(rt; read_catalogue(alloc, RAILS.as_bytes()) == Ok(wanted));
     Ok(())
 }
 

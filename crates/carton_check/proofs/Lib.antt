@@ -1,4 +1,3 @@
-pub mod Compared
 pub mod Moves
 pub mod Judged
 pub mod Implied

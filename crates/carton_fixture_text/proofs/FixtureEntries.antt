@@ -7,9 +7,9 @@ use Rattle.std.proofs.lemmas.List.Elements.{All-from_recursion, recursion_from_A
 use Rattle.std.proofs.lemmas.List.Sums.{AllPass-from_list_all, list_all-from_AllPass}
 use Rattle.carton_base.specs.Steps.{refuse_if}
 use Rattle.carton_base.proofs.Steps.{both, same_ok, not_refused, only_if}
-use Rattle.carton_text.specs.declared.fault.Fault.TheVariants.{BadLine, Range}
-use Rattle.carton_text.specs.Numbers.{from_to}
-use Rattle.carton_text.proofs.SpelledLines.{AreSmall}
+use Rattle.carton_lines.specs.declared.fault.Fault.TheVariants.{BadLine, Range}
+use Rattle.carton_lines.specs.Numbers.{from_to}
+use Rattle.carton_lines.proofs.SpelledLines.{AreSmall}
 use Rattle.carton_catalogue.specs.declared.limits.TheConstants.{FARTHEST_CORNER}
 use Rattle.carton_catalogue.specs.CatalogueRules.{IsCoordinate, IsStroke, IsSpan}
 use Rattle.carton_fixture_text.specs.declared.fixture.TheConstants.{LAST_BODY}

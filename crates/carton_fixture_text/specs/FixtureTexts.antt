@@ -1,22 +1,23 @@
 -- The fixture of a text, or the first rule that fails; and the text of a fixture.
 use Rattle.std.specs.Prelude.{◌≡◌, ◌↔◌, ℕ, ℤ, pos, ◌++◌, List, [], ◌∷◌, flat_map, int_lt, not, bytes_eq, Bool, true, false, if◌then◌else◌, Result, Ok, Err, codes}
 use Rattle.std.specs.List.{list_all}
-use Rattle.bstr.specs.Text.{lines_of}
 use Rattle.carton_base.specs.declared.bodies.Cuboid.{Cuboid}
 use Rattle.carton_base.specs.Steps.{◌>>=◌, refuse_if}
-use Rattle.carton_text.specs.declared.fault.Fault.{Fault}
-use Rattle.carton_text.specs.declared.fault.Fault.TheVariants.{BadLine, Range}
-use Rattle.carton_text.specs.declared.fault.LineError.{LineError}
-use Rattle.carton_text.specs.declared.fault.LineError.TheVariants.{NoEnd}
-use Rattle.carton_text.specs.Numbers.{from_to, at_most}
-use Rattle.carton_text.specs.Lines.{words_of}
-use Rattle.carton_text.specs.StrictLines.{read_strictly, numbers_after, spelled}
+use Rattle.carton_lines.specs.declared.fault.Fault.{Fault}
+use Rattle.carton_lines.specs.declared.fault.Fault.TheVariants.{BadLine, Range}
+use Rattle.carton_lines.specs.declared.fault.LineError.{LineError}
+use Rattle.carton_lines.specs.declared.fault.LineError.TheVariants.{NoEnd}
+use Rattle.carton_lines.specs.Numbers.{from_to, at_most}
+use Rattle.carton_lines.specs.Lines.{words_of}
+use Rattle.carton_lines.specs.StrictLines.{numbers_after, spelled}
+use Rattle.carton_lines.specs.Grammars.{Grammar}
+use Rattle.carton_lines.specs.Readings.{strictly_read}
 use Rattle.carton_catalogue.specs.declared.limits.TheConstants.{FARTHEST_CORNER}
 use Rattle.carton_fixture_text.specs.declared.fixture.TheConstants.{LAST_BODY}
 use Rattle.carton_fixture_text.specs.declared.fixture.Fixture.{Fixture}
 use Rattle.carton_fixture_text.specs.declared.fixture.FixtureBody.{FixtureBody}
 use Rattle.carton_fixture_text.specs.declared.fixture_text.FixtureReading.{FixtureReading}
-use Rattle.carton_fixture_text.specs.declared.fixture_text.FixtureReading.TheVariants.{Before, Headed, Within, Ended}
+use Rattle.carton_fixture_text.specs.declared.fixture_text.FixtureReading.TheVariants.{Headed, Within}
 use Rattle.carton_fixture_text.specs.FixtureRules.{IsFixture}
 
 -- a number within the bounds of a catalogue
@@ -70,29 +71,32 @@ with_body f line = do
   body ← body_of f.bodies zs
   Ok (record f { bodies = f.bodies ++ body ∷ [] })
 
--- a whole line after those that were read
-unfoldable pub fixture_line : FixtureReading → List ℕ → Result FixtureReading Fault
-fixture_line Before line = if bytes_eq line (codes "carton fixture 1") then Ok Headed else Err BadLine
-fixture_line Headed line = stroke_told line >>= λ stroke. Ok (Within (record { stroke = stroke; bodies = [] }))
-fixture_line (Within f) line = if bytes_eq line (codes "end") then Ok (Ended f) else (with_body f line >>= λ g. Ok (Within g))
-fixture_line (Ended f) line = Err BadLine
+-- the first line
+abbrev pub begun : List ℕ → Result FixtureReading Fault
+begun line = if bytes_eq line (codes "carton fixture 1") then Ok Headed else Err BadLine
 
-abbrev pub has_ended : FixtureReading → Bool
-has_ended Before = false
-has_ended Headed = false
-has_ended (Within f) = false
-has_ended (Ended f) = true
+-- the second line tells the stroke, and each later one a body
+abbrev pub fixture_line : FixtureReading → ℕ → List ℕ → Result FixtureReading Fault
+fixture_line Headed n line = stroke_told line >>= λ stroke. Ok (Within (record { stroke = stroke; bodies = [] }))
+fixture_line (Within f) n line = with_body f line >>= λ g. Ok (Within g)
 
--- what the lines told in all, if one of them was `end`
+-- `end` ends a fixture whose stroke was told
+abbrev pub may_end : FixtureReading → Bool
+may_end Headed = false
+may_end (Within f) = true
+
+-- the lines of a fixture
+abbrev pub fixture_lines : Grammar FixtureReading
+fixture_lines = record { begin = begun; take = fixture_line; may_end = may_end }
+
+-- what the lines told in all
 abbrev pub fixture_told : FixtureReading → Result Fixture LineError
-fixture_told Before = Err NoEnd
 fixture_told Headed = Err NoEnd
-fixture_told (Within f) = Err NoEnd
-fixture_told (Ended f) = Ok f
+fixture_told (Within f) = Ok f
 
 -- the fixture of the bytes of a text
 unfoldable pub fixture_of : List ℕ → Result Fixture LineError
-fixture_of bytes = read_strictly has_ended fixture_line Before 0 (lines_of bytes) >>= fixture_told
+fixture_of bytes = strictly_read fixture_lines bytes >>= fixture_told
 
 -- the number of a body, and the sides of its box
 abbrev pub numbers_of : FixtureBody → List ℤ

@@ -1,11 +1,11 @@
 ghost use Rattle.std.specs.Prelude.{◌≡◌};
-ghost use Rattle.carton_text.specs.Lines.{Gives};
+ghost use Rattle.carton_lines.specs.Lines.{Gives};
 ghost use Rattle.carton_fixture_text.specs.FixtureTexts.{near as near_in, way_of, stroke_told as stroke_told_in, span_of, comes_after as comes_after_in, body_of, with_body as with_body_in};
 
 use crate::fixture::{Fixture, FixtureBody, LAST_BODY};
 use carton_base::Cuboid;
 use carton_catalogue::FARTHEST_CORNER;
-use carton_text::{Fault, Numeral, numbers_after};
+use carton_lines::{Fault, Numeral, numbers_after};
 use std::alloc::Global;
 
 fn near(number: &Numeral<'_>) -> Result<i32, Fault>

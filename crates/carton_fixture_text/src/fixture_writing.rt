@@ -1,28 +1,11 @@
 ghost use Rattle.std.specs.Prelude.{◌≡◌, ◌++◌, flat_map, string_bytes, OnOk, IfOk};
-ghost use Rattle.carton_text.specs.StrictLines.{spaced, spelled};
 ghost use Rattle.carton_fixture_text.specs.FixtureRules.{IsFixture};
 ghost use Rattle.carton_fixture_text.specs.FixtureTexts.{numbers_of as numbers_of_in, body_line, spelling};
 
 use crate::fixture::{Fixture, FixtureBody};
 use carton_base::OutOfMemory;
+use carton_lines::write_line;
 use std::alloc::{AllocError, Global};
-
-fn write_numbers(text: &mut String, numbers: &[i32]) -> Result<(), AllocError>
-    ensures { OnOk result (string_bytes text.new ≡ string_bytes text.old ++ flat_map spaced numbers.now) }
-{
-    for number in numbers {
-        write!(text, " {number}")?;
-    }
-    Ok(())
-}
-
-fn write_line(text: &mut String, word: &str, numbers: &[i32]) -> Result<(), AllocError>
-    ensures { OnOk result (string_bytes text.new ≡ string_bytes text.old ++ spelled word.now numbers.now) }
-{
-    text.push_str(word)?;
-    write_numbers(text, numbers)?;
-    text.push_str("\n")
-}
 
 fn numbers_of(body: &FixtureBody) -> [i32; 7]
     ensures { result ≡ numbers_of_in body.now }

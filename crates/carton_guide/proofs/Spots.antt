@@ -3,7 +3,6 @@ use Rattle.std.proofs.Common.{◌≡◌, subst, inl, inr, ℕ, ◌+◌, ◌-◌,
 use Rattle.std.specs.Prelude.{All, IfSome}
 use Rattle.std.proofs.lemmas.Bool.{cases_lt}
 use Rattle.std.proofs.lemmas.Nat.{mul-le}
-use Rattle.carton_base.specs.Moments.{IsMoment, InPiece}
 use Rattle.carton_base.specs.declared.limits.TheConstants.{MOST_JOINTS}
 use Rattle.carton_base.specs.declared.motion.Motion.{Motion}
 use Rattle.carton_base.specs.declared.motion.Turn.{Turn}
@@ -11,10 +10,6 @@ use Rattle.carton_model.specs.Moves.{IsMotion}
 use Rattle.carton_model.specs.Turning.{IsTurn}
 use Rattle.carton_place.specs.Swings.{change_of, ChangesWithin}
 use Rattle.carton_guide.specs.Spots.{spot_units}
-
--- the moment of the piece that is this moment of the move
-pub own_moment : (index depth n d : ℕ) → IsMoment n d → InPiece index depth n d → IsMoment (n * 2 ^ depth - index * d) d
-own_moment index depth n d m i = record { within = omega (arith, i.upto); some = m.some }
 
 change_small : (motion : Motion) (place : Option ℕ) → IsMotion MOST_JOINTS motion → IfSome place (λ k. k < MOST_JOINTS) → change_of motion place ≤ 4
 change_small motion None m h = omega arith

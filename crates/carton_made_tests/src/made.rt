@@ -1,15 +1,11 @@
 ghost use Rattle.std.specs.Prelude.{◌<◌};
 
 use carton_base::PanelId;
-use carton_fold::read_dieline;
+use carton_cases::{dielines, files_of, jobs};
 use carton_made::{Kind, kind_of, made_dieline, made_job, size_of};
-use carton_text::{job_for, read_job};
+use carton_text::job_for;
 use carton_tree::tree;
 use std::alloc::Global;
-
-// The dieline of number 0, as the example file of a tray has it.
-const TRAY: &str =
-    r#"{"vertices_coords":[[0,0],[100,0],[100,100],[0,100],[0,-60],[100,-60],[160,0],[160,100],[100,160],[0,160],[-60,100],[-60,0]],"edges_vertices":[[0,1],[1,2],[2,3],[3,0],[0,4],[4,5],[5,1],[1,6],[6,7],[7,2],[2,8],[8,9],[9,3],[3,10],[10,11],[11,0]],"edges_assignment":["V","V","V","V","B","B","B","B","B","B","B","B","B","B","B","B"],"faces_vertices":[[0,1,2,3],[4,5,1,0],[1,6,7,2],[3,2,8,9],[11,0,3,10]]}"#;
 
 // The dieline of number 2, typed from its description.
 const TUBE: &str =
@@ -22,10 +18,6 @@ const WIDE_TRAY: &str =
 // How the dieline of number 58 begins.
 const WIDE_STRIP: &str =
     r#"{"vertices_coords":[[0,0],[290,0],[580,0],[870,0],[1160,0],[1450,0],[1740,0],[2030,0],[2320,0],[2610,0],[0,100],[290,100],[580,100],[870,100],[1160,100],[1450,100],[1740,100],[2030,100],[2320,100],[2610,100]]"#;
-
-// The job of each tray.
-const TRAY_JOB: &str =
-    "carton job 1\nmargin 4\ntarget 0 8\ntarget 1 8\ntarget 2 8\ntarget 3 8\nteam 0 1 2 3\nend\n";
 
 // The job of each strip.
 const STRIP_JOB: &str =
@@ -56,11 +48,11 @@ fn is_job(alloc: Global, k: u32, text: &str) -> bool
 #[test]
 fn texts_as_they_are_described(rt: HostRuntime) {
     let alloc = rt.alloc();
-    assert!(rt; is_dieline(alloc, 0, TRAY));
+    assert!(rt; is_dieline(alloc, 0, dielines::TRAY));
     assert!(rt; is_dieline(alloc, 2, TUBE));
     assert!(rt; begins(alloc, 18, WIDE_TRAY));
     assert!(rt; begins(alloc, 58, WIDE_STRIP));
-    assert!(rt; is_job(alloc, 0, TRAY_JOB));
+    assert!(rt; is_job(alloc, 0, jobs::TOGETHER));
     assert!(rt; is_job(alloc, 1, STRIP_JOB));
     assert!(rt; is_job(alloc, 59, TUBE_JOB));
     assert!(rt; kind_of(58) == Kind::Strip);
@@ -84,19 +76,16 @@ fn is_read(alloc: Global, k: u32) -> bool
     let (Ok(dieline), Ok(job)) = (made_dieline(alloc, k), made_job(alloc, k)) else {
         return false;
     };
-    let Ok(raw) = read_dieline(alloc, &dieline) else {
+    let Some(files) = files_of(alloc, &dieline, &job) else {
         return false;
     };
-    let Ok(job) = read_job(alloc, &job) else {
+    let Ok(carton) = tree(alloc, &files.dieline, 4, PanelId(0)) else {
         return false;
     };
-    let Ok(carton) = tree(alloc, &raw, 4, PanelId(0)) else {
+    let Ok(task) = job_for(alloc, &carton, &files.dieline, &files.job) else {
         return false;
     };
-    let Ok(task) = job_for(alloc, &carton, &raw, &job) else {
-        return false;
-    };
-    let count = raw.faces.len();
+    let count = files.dieline.faces.len();
     count == panels(kind_of(k)) && task.creases.len() == count - 1 && task.teams.len() == 1
 }
 

@@ -11,18 +11,14 @@ use carton_place::place;
 
 // A joint of a path: its place, past the joints where it is locked, whether it is upright, its line
 // and its sign.
-struct Joint {
-    place: u8,
-    upright: bool,
-    at: i32,
-    sign: i8,
-}
+struct Joint(u8, bool, i32, i8);
 
-fn place_of(joint: &Joint) -> Option<u8>
+// A place of a joint; None past all of them.
+fn place_of(place: u8) -> Option<u8>
     ensures { IfSome result (λ k. k < MOST_JOINTS) }
 {
-    if (joint.place as usize) < MOST_JOINTS {
-        Some(joint.place)
+    if (place as usize) < MOST_JOINTS {
+        Some(place)
     } else {
         None
     }
@@ -31,17 +27,18 @@ fn place_of(joint: &Joint) -> Option<u8>
 fn turn_of(joint: &Joint) -> Option<Turn>
     ensures { IfSome result IsTurn }
 {
-    if joint.at.unsigned_abs() > FARTHEST {
+    let Joint(place, upright, at, sign) = *joint;
+    if at.unsigned_abs() > FARTHEST {
         return None;
     }
-    if joint.sign.unsigned_abs() != 1 {
+    if sign.unsigned_abs() != 1 {
         return None;
     }
     Some(Turn {
-        place: place_of(joint),
-        upright: joint.upright,
-        at: joint.at,
-        sign: joint.sign,
+        place: place_of(place),
+        upright,
+        at,
+        sign,
     })
 }
 
@@ -119,16 +116,14 @@ fn corner_of(x: i64, y: i64, w: i64) -> Option<Triple>
     Some(Triple { x, y, w })
 }
 
-// A path of so many joints of the list, past so many of them; the stops of the second joint and of all
-// others before and after; then how wide each bound may be, and the least and the greatest x, y and z
-// over the piece, by sixteenths of it, each rounded outward.
+// Past so many joints of the list, a path of so many; the grid; the stops of the first and of the second
+// joint before and after, where those of all others are as the first one's; and the corner.
+type Course = (usize, usize, u8, (i8, i8), (i8, i8), (i64, i64, i64));
+
+// How a corner goes; then how wide each bound may be, and the least and the greatest x, y and z over
+// the piece, by sixteenths of it, each rounded outward.
 struct Row {
-    skip: usize,
-    count: usize,
-    from: (i8, i8),
-    to: (i8, i8),
-    grid: u8,
-    corner: (i64, i64, i64),
+    course: Course,
     widest: i128,
     parts: [(i128, i128); 3],
 }
@@ -141,10 +136,11 @@ fn is_within(part: Fix, want: (i128, i128), widest: i128) -> bool {
 
 // The bounds are as the row says; None where the row isn't one.
 fn stands(row: &Row, piece: Piece) -> Option<bool> {
-    let joints = JOINTS.get(row.skip..)?.get(..row.count)?;
+    let (skip, count, grid, from, to, (x, y, w)) = row.course;
+    let joints = JOINTS.get(skip..)?.get(..count)?;
     let turns = turns_of(joints)?;
-    let motion = motion_of(row.grid, row.from.0, row.to.0, row.from.1, row.to.1)?;
-    let corner = corner_of(row.corner.0, row.corner.1, row.corner.2)?;
+    let motion = motion_of(grid, from.0, to.0, from.1, to.1)?;
+    let corner = corner_of(x, y, w)?;
     let p = place::<Fix>(turns.get(..joints.len())?, corner, &motion, piece);
     let [x, y, z] = row.parts;
     Some(
@@ -159,70 +155,20 @@ fn passes(row: &Row, piece: Piece) -> bool {
 }
 
 const JOINTS: [Joint; 9] = [
-    Joint {
-        place: 1,
-        upright: true,
-        at: 100,
-        sign: 1,
-    },
-    Joint {
-        place: 1,
-        upright: true,
-        at: 100,
-        sign: -1,
-    },
-    Joint {
-        place: 0,
-        upright: false,
-        at: 50,
-        sign: -1,
-    },
-    Joint {
-        place: 24,
-        upright: true,
-        at: -30,
-        sign: 1,
-    },
-    Joint {
-        place: 1,
-        upright: false,
-        at: 200,
-        sign: 1,
-    },
-    Joint {
-        place: 2,
-        upright: true,
-        at: 300,
-        sign: -1,
-    },
-    Joint {
-        place: 3,
-        upright: false,
-        at: -150,
-        sign: 1,
-    },
-    Joint {
-        place: 4,
-        upright: true,
-        at: 4000,
-        sign: -1,
-    },
-    Joint {
-        place: 5,
-        upright: false,
-        at: 8191,
-        sign: 1,
-    },
+    Joint(1, true, 100, 1),
+    Joint(1, true, 100, -1),
+    Joint(0, false, 50, -1),
+    Joint(24, true, -30, 1),
+    Joint(1, false, 200, 1),
+    Joint(2, true, 300, -1),
+    Joint(3, false, -150, 1),
+    Joint(4, true, 4000, -1),
+    Joint(5, false, 8191, 1),
 ];
 
 const WHOLE: [Row; 10] = [
     Row {
-        skip: 0,
-        count: 1,
-        from: (0, 4),
-        to: (0, 4),
-        grid: 8,
-        corner: (200, 0, 1),
+        course: (0, 1, 8, (0, 4), (0, 4), (200, 0, 1)),
         widest: 206,
         parts: [
             (175921860444160, 175921860444160),
@@ -231,12 +177,7 @@ const WHOLE: [Row; 10] = [
         ],
     },
     Row {
-        skip: 1,
-        count: 1,
-        from: (0, -4),
-        to: (0, -4),
-        grid: 8,
-        corner: (0, 0, 1),
+        course: (1, 1, 8, (0, -4), (0, -4), (0, 0, 1)),
         widest: 206,
         parts: [
             (43980465111040, 43980465111040),
@@ -245,12 +186,7 @@ const WHOLE: [Row; 10] = [
         ],
     },
     Row {
-        skip: 2,
-        count: 1,
-        from: (5, 0),
-        to: (5, 0),
-        grid: 16,
-        corner: (401, 99, 3),
+        course: (2, 1, 16, (5, 0), (5, 0), (401, 99, 3)),
         widest: 40,
         parts: [
             (146968054246058, 146968054246059),
@@ -259,12 +195,7 @@ const WHOLE: [Row; 10] = [
         ],
     },
     Row {
-        skip: 0,
-        count: 1,
-        from: (0, 6),
-        to: (0, 10),
-        grid: 8,
-        corner: (200, 30, 1),
+        course: (0, 1, 8, (0, 6), (0, 10), (200, 30, 1)),
         widest: 61572651155661,
         parts: [
             (79164837199872, 140737488355328),
@@ -273,12 +204,7 @@ const WHOLE: [Row; 10] = [
         ],
     },
     Row {
-        skip: 1,
-        count: 1,
-        from: (0, -6),
-        to: (0, -10),
-        grid: 8,
-        corner: (20, 30, 1),
+        course: (1, 1, 8, (0, -6), (0, -10), (20, 30, 1)),
         widest: 49258120924530,
         parts: [
             (85322102315417, 134580223239783),
@@ -287,12 +213,7 @@ const WHOLE: [Row; 10] = [
         ],
     },
     Row {
-        skip: 2,
-        count: 1,
-        from: (-2, 0),
-        to: (2, 0),
-        grid: 8,
-        corner: (401, 99, 2),
+        course: (2, 1, 8, (-2, 0), (2, 0), (401, 99, 2)),
         widest: 517417236607,
         parts: [
             (220452081369088, 220452081369088),
@@ -301,12 +222,7 @@ const WHOLE: [Row; 10] = [
         ],
     },
     Row {
-        skip: 1,
-        count: 2,
-        from: (14, 1),
-        to: (18, -3),
-        grid: 16,
-        corner: (20, -30, 1),
+        course: (1, 2, 16, (14, 1), (18, -3), (20, -30, 1)),
         widest: 66169884778606,
         parts: [
             (21990232555520, 27964937249850),
@@ -315,12 +231,7 @@ const WHOLE: [Row; 10] = [
         ],
     },
     Row {
-        skip: 2,
-        count: 3,
-        from: (-1, 6),
-        to: (-1, 10),
-        grid: 8,
-        corner: (120, 40, 1),
+        course: (2, 3, 8, (-1, 6), (-1, 10), (120, 40, 1)),
         widest: 98435047144572,
         parts: [
             (131941395333120, 131941395333120),
@@ -329,12 +240,7 @@ const WHOLE: [Row; 10] = [
         ],
     },
     Row {
-        skip: 1,
-        count: 8,
-        from: (0, -10),
-        to: (4, -6),
-        grid: 8,
-        corner: (8191, -8191, 1),
+        course: (1, 8, 8, (0, -10), (4, -6), (8191, -8191, 1)),
         widest: 84900899276665210,
         parts: [
             (-2380970439716373, 11724800255804427),
@@ -343,12 +249,7 @@ const WHOLE: [Row; 10] = [
         ],
     },
     Row {
-        skip: 1,
-        count: 8,
-        from: (29, -18),
-        to: (32, -14),
-        grid: 16,
-        corner: (1, 2, 3),
+        course: (1, 8, 16, (29, -18), (32, -14), (1, 2, 3)),
         widest: 5284092264555273,
         parts: [
             (8052163336280076, 8232846524823150),
@@ -367,12 +268,7 @@ fn over_whole_moves(rt: HostRuntime) {
 
 const EIGHTH: [Row; 5] = [
     Row {
-        skip: 0,
-        count: 1,
-        from: (0, 6),
-        to: (0, 10),
-        grid: 8,
-        corner: (200, 30, 1),
+        course: (0, 1, 8, (0, 6), (0, 10), (200, 30, 1)),
         widest: 7509037518473,
         parts: [
             (117037412353703, 124546449871972),
@@ -381,12 +277,7 @@ const EIGHTH: [Row; 5] = [
         ],
     },
     Row {
-        skip: 1,
-        count: 2,
-        from: (-18, -2),
-        to: (-14, 2),
-        grid: 16,
-        corner: (20, -30, 1),
+        course: (1, 2, 16, (-18, -2), (-14, 2), (20, -30, 1)),
         widest: 8343332348222,
         parts: [
             (22161863638880, 22674753413280),
@@ -395,12 +286,7 @@ const EIGHTH: [Row; 5] = [
         ],
     },
     Row {
-        skip: 2,
-        count: 3,
-        from: (-2, 10),
-        to: (2, 6),
-        grid: 8,
-        corner: (120, 40, 1),
+        course: (2, 3, 8, (-2, 10), (2, 6), (120, 40, 1)),
         widest: 13368842734568,
         parts: [
             (131941395333120, 131941395333120),
@@ -409,12 +295,7 @@ const EIGHTH: [Row; 5] = [
         ],
     },
     Row {
-        skip: 1,
-        count: 8,
-        from: (12, 3),
-        to: (16, 7),
-        grid: 8,
-        corner: (-8191, 8191, 1),
+        course: (1, 8, 8, (12, 3), (16, 7), (-8191, 8191, 1)),
         widest: 12745324676652687,
         parts: [
             (6583142914114240, 6975078876482562),
@@ -423,12 +304,7 @@ const EIGHTH: [Row; 5] = [
         ],
     },
     Row {
-        skip: 1,
-        count: 8,
-        from: (3, 0),
-        to: (3, 0),
-        grid: 16,
-        corner: (7001, -5, 7),
+        course: (1, 8, 16, (3, 0), (3, 0), (7001, -5, 7)),
         widest: 34575,
         parts: [
             (1216023518350808, 1216023518350809),
@@ -447,12 +323,7 @@ fn over_an_eighth_of_a_move(rt: HostRuntime) {
 
 const FINEST: [Row; 5] = [
     Row {
-        skip: 0,
-        count: 1,
-        from: (0, 6),
-        to: (0, 10),
-        grid: 8,
-        corner: (200, 30, 1),
+        course: (0, 1, 8, (0, 6), (0, 10), (200, 30, 1)),
         widest: 1188,
         parts: [
             (79164837199872, 79164837200856),
@@ -461,12 +332,7 @@ const FINEST: [Row; 5] = [
         ],
     },
     Row {
-        skip: 1,
-        count: 2,
-        from: (-18, -2),
-        to: (-14, 2),
-        grid: 16,
-        corner: (20, -30, 1),
+        course: (1, 2, 16, (-18, -2), (-14, 2), (20, -30, 1)),
         widest: 1344,
         parts: [
             (24696722716044, 24696722716200),
@@ -475,12 +341,7 @@ const FINEST: [Row; 5] = [
         ],
     },
     Row {
-        skip: 2,
-        count: 3,
-        from: (4, 10),
-        to: (4, 6),
-        grid: 8,
-        corner: (120, 40, 1),
+        course: (2, 3, 8, (4, 10), (4, 6), (120, 40, 1)),
         widest: 2228,
         parts: [
             (131941395333120, 131941395333120),
@@ -489,12 +350,7 @@ const FINEST: [Row; 5] = [
         ],
     },
     Row {
-        skip: 1,
-        count: 8,
-        from: (12, 3),
-        to: (16, 7),
-        grid: 8,
-        corner: (-8191, 8191, 1),
+        course: (1, 8, 8, (12, 3), (16, 7), (-8191, 8191, 1)),
         widest: 864573,
         parts: [
             (7036241955251176, 7036241955325644),
@@ -503,12 +359,7 @@ const FINEST: [Row; 5] = [
         ],
     },
     Row {
-        skip: 1,
-        count: 8,
-        from: (-2, 15),
-        to: (2, 17),
-        grid: 16,
-        corner: (8191, -5, 1),
+        course: (1, 8, 16, (-2, 15), (2, 17), (8191, -5, 1)),
         widest: 356458,
         parts: [
             (-560733369481360, -560733369465753),

@@ -13,3 +13,4 @@ pub mod Still
 pub mod Upward
 pub mod Walks
 pub mod Ways
+pub mod Same

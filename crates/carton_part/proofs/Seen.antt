@@ -1,5 +1,5 @@
 -- Positions of one place of the world are one place in each frame, so panels that are parted don't meet.
-use Rattle.std.proofs.Common.{◌≡◌, ◌∙◌, refl, sym, ap, subst, ◌⊎◌, inl, inr, ℕ, ◌<◌, List, ◌++◌, length, map, reverse, pos, ◌<ℤ◌}
+use Rattle.std.proofs.Common.{◌≡◌, ◌∙◌, refl, sym, ap, subst, ℕ, ◌<◌, List, ◌++◌, length, map, reverse, pos, ◌<ℤ◌}
 use Rattle.std.proofs.lemmas.List.{map-append, reverse-append}
 use Rattle.carton_base.specs.declared.motion.Turn.{Turn}
 use Rattle.carton_model.specs.HalfTurns.{Fold}
@@ -7,14 +7,14 @@ use Rattle.carton_model.specs.Parting.{Position}
 use Rattle.carton_model.specs.Turning.{turned_back, turned_through, placed}
 use Rattle.carton_tree.specs.Cartons.{IsCarton}
 use Rattle.carton_tree.specs.Trees.{Tree, parting, turns_up, turns_between}
-use Rattle.carton_part.specs.Frames.{IsOnPath}
 use Rattle.carton_part.specs.Points.{IsPointOf, HaveDens, flat_at}
 use Rattle.carton_part.specs.Parted.{ArePartedBy}
 use Rattle.carton_part.specs.Meeting.{AreMeeting}
 use Rattle.carton_part.proofs.Positive.{positive_placed}
 use Rattle.carton_part.proofs.Alike.{AreAlike, alike_back, alike_on, alike_placed, alike_from, not_beyond}
 use Rattle.carton_part.proofs.Returning.{back, placed_append, returned}
-use Rattle.carton_part.proofs.Upward.{turns_of, way_up, no_turns, parting_on, on_path}
+use Rattle.carton_part.proofs.Upward.{turns_of, way_up, no_turns, parting_on}
+use Rattle.carton_part.proofs.Ways.{frame_in}
 
 between_is : (t : Tree) (p f : ℕ) → turns_between t p f ≡ turns_up t.joints p (parting t p f) ++ back (turns_up t.joints f (parting t p f))
 unfolding turns_between
@@ -62,14 +62,10 @@ seen_alike t folds a b f p q c h la lb lf same =
     let down = back (turns_of t f) in
     alike_on _ _ _ (alike_back _ _ (seen_from t folds a f p c h la lf)) (alike_on _ _ _ (alike_placed folds down wa wb world) (seen_from t folds b f q c h lb lf))
 
-frame_in : (t : Tree) (a b f : ℕ) → IsCarton t → a < length t.panels → b < length t.panels → IsOnPath t a f ⊎ IsOnPath t b f → f < length t.panels
-frame_in t a b f c la lb (inl h) = on_path t a f c la h
-frame_in t a b f c la lb (inr h) = on_path t b f c lb h
-
 pub parted_apart : (t : Tree) (folds : ℕ → Fold) (a b : ℕ) → IsCarton t → HaveDens folds → a < length t.panels → b < length t.panels → ArePartedBy t folds a b (pos 0) → ¬ (AreMeeting t folds a b)
 parted_apart t folds a b c h la lb parted meet =
     let f = parted.0 in
-    let lf = frame_in t a b f c la lb parted.1.way.above in
+    let lf = frame_in t a b f c la lb parted.1 in
     let by = parted.2 in
     let x = meet.of_a in
     let y = meet.of_b in

@@ -1,41 +1,28 @@
 -- The turns from a panel to the root: those up to a panel on its path, and then those of that panel.
 use Rattle.std.proofs.Common.{◌≡◌, ◌∙◌, refl, sym, ap, inl, inr, ℕ, zero, suc, ◌<◌, ◌≤◌, List, [], ◌∷◌, ◌++◌, length, get_or, take, true, false, cond, nat_eq, Option, None, Some, arith}
-use Rattle.std.specs.Prelude.{Contains, IfSome}
-use Rattle.std.specs.List.{last_or}
+use Rattle.std.specs.Prelude.{Contains}
 use Rattle.std.proofs.lemmas.Bool.{cases_Bool, eqb-true, eq-eqb, both_ways}
-use Rattle.std.proofs.lemmas.Option.{same_Some}
 use Rattle.carton_base.specs.declared.ids.PanelId.{PanelId}
 use Rattle.carton_base.specs.declared.limits.TheConstants.{LONGEST_PATH}
 use Rattle.carton_base.specs.declared.motion.Turn.{Turn}
 use Rattle.carton_tree.specs.declared.joint.Joint.{Joint}
-use Rattle.carton_tree.specs.Trees.{Tree, joint_of, beyond, path, path_by, turns_by, turns_up, steps_to, first_shared, number_or, parting, AreParents}
+use Rattle.carton_tree.specs.Trees.{Tree, joint_of, beyond, path, path_by, turns_by, turns_up, steps_to, first_shared, number_or, parting}
 use Rattle.carton_tree.specs.Cartons.{IsCarton}
-use Rattle.carton_tree.proofs.Meeting.{shared_in, root_on, parents_in}
+use Rattle.carton_tree.proofs.Ascents.{EndsAt, only_panel, last_of_path}
+use Rattle.carton_tree.proofs.Meeting.{shared_in, root_on}
 use Rattle.carton_part.specs.Frames.{IsOnPath}
 
--- the path over at most n joints ends at the root
-abbrev EndsAt : ℕ → List (Option Joint) → ℕ → ℕ → Type 0
-EndsAt n js p root = last_or None (path_by n js p) ≡ Some (record { 0 = root })
-
-last_of_path : (o : Option PanelId) (n : ℕ) (js : List (Option Joint)) (p : ℕ) → last_or o (path_by n js p) ≡ last_or None (path_by n js p)
-unfolding path_by
-last_of_path o zero js p = refl
-last_of_path o (suc n) js p = refl
-
-only_panel : (p q : PanelId) → last_or None (p ∷ []) ≡ Some q → p.0 ≡ q.0
-only_panel p q e = ap (λ (x : PanelId). x.0) (same_Some p q e)
-
 -- past the root there are no more turns
-more_turns : (js : List (Option Joint)) (root : ℕ) → joint_of js root ≡ None → (n m p : ℕ) → n ≤ m → EndsAt n js p root → turns_by n js p ≡ turns_by m js p
+more_turns : (js : List (Option Joint)) (root : ℕ) → joint_of js root ≡ None → (n m p : ℕ) → n ≤ m → EndsAt root (path_by n js p) → turns_by n js p ≡ turns_by m js p
 unfolding path_by turns_by
 more_turns js root top zero zero p le e = refl
 more_turns js root top zero (suc m) p le e =
-    let none : joint_of js p ≡ None = ap (joint_of js) (only_panel (record { 0 = p }) (record { 0 = root }) e) ∙ top in
+    let none : joint_of js p ≡ None = ap (joint_of js) (only_panel p root e) ∙ top in
     sym (ap (λ o. beyond (λ (j : Joint). j.turn ∷ turns_by m js j.parent.0) o) none)
 more_turns js root top (suc n) zero p le e = absurd (omega (arith, le))
 more_turns js root top (suc n) (suc m) p le e = at (joint_of js p) e (λ q h. more_turns js root top n m q (omega (arith, le)) h)
   where
-    at : (o : Option Joint) → last_or None (record { 0 = p } ∷ beyond (λ (j : Joint). path_by n js j.parent.0) o) ≡ Some (record { 0 = root }) → ((q : ℕ) → EndsAt n js q root → turns_by n js q ≡ turns_by m js q)
+    at : (o : Option Joint) → EndsAt root (record { 0 = p } ∷ beyond (λ (j : Joint). path_by n js j.parent.0) o) → ((q : ℕ) → EndsAt root (path_by n js q) → turns_by n js q ≡ turns_by m js q)
         → beyond (λ (j : Joint). j.turn ∷ turns_by n js j.parent.0) o ≡ beyond (λ (j : Joint). j.turn ∷ turns_by m js j.parent.0) o
     at None h go = refl
     at (Some j) h go = ap (λ ts. j.turn ∷ ts) (go j.parent.0 (sym (last_of_path (Some (record { 0 = p })) n js j.parent.0) ∙ h))
@@ -51,13 +38,13 @@ in_none : (x : PanelId) → Contains [] x → ⊥
 in_none x h = omega (arith, h.1)
 
 -- at the panel itself
-here : (js : List (Option Joint)) (root : ℕ) → joint_of js root ≡ None → (n m p x : ℕ) (ps : List PanelId) → nat_eq p x ≡ true → n ≤ m → EndsAt n js p root
+here : (js : List (Option Joint)) (root : ℕ) → joint_of js root ≡ None → (n m p x : ℕ) (ps : List PanelId) → nat_eq p x ≡ true → n ≤ m → EndsAt root (path_by n js p)
     → turns_by n js p ≡ take (steps_to x (record { 0 = p } ∷ ps)) (turns_by n js p) ++ turns_by m js x
 here js root top n m p x ps same le e =
     let nought : steps_to x (record { 0 = p } ∷ ps) ≡ 0 = ap (λ b. cond b 0 (suc (steps_to x ps))) same in
     more_turns js root top n m p le e ∙ ap (turns_by m js) (eqb-true p x same) ∙ sym (ap (λ k. take k (turns_by n js p) ++ turns_by m js x) nought)
 
-up_then : (js : List (Option Joint)) (root : ℕ) → joint_of js root ≡ None → (n m p x : ℕ) → n ≤ m → EndsAt n js p root → Contains (path_by n js p) (record { 0 = x })
+up_then : (js : List (Option Joint)) (root : ℕ) → joint_of js root ≡ None → (n m p x : ℕ) → n ≤ m → EndsAt root (path_by n js p) → Contains (path_by n js p) (record { 0 = x })
     → turns_by n js p ≡ take (steps_to x (path_by n js p)) (turns_by n js p) ++ turns_by m js x
 unfolding path_by turns_by
 up_then js root top zero m p x le e h = elim (cases_Bool (nat_eq p x)) [
@@ -69,9 +56,9 @@ up_then js root top (suc n) m p x le e h = elim (cases_Bool (nat_eq p x)) [
   | inr other ↦ at (joint_of js p) other e h (λ q f g. up_then js root top n m q x (omega (arith, le)) f g)
 ]
   where
-    at : (o : Option Joint) → nat_eq p x ≡ false → last_or None (record { 0 = p } ∷ beyond (λ (j : Joint). path_by n js j.parent.0) o) ≡ Some (record { 0 = root })
+    at : (o : Option Joint) → nat_eq p x ≡ false → EndsAt root (record { 0 = p } ∷ beyond (λ (j : Joint). path_by n js j.parent.0) o)
         → Contains (record { 0 = p } ∷ beyond (λ (j : Joint). path_by n js j.parent.0) o) (record { 0 = x })
-        → ((q : ℕ) → EndsAt n js q root → Contains (path_by n js q) (record { 0 = x }) → turns_by n js q ≡ take (steps_to x (path_by n js q)) (turns_by n js q) ++ turns_by m js x)
+        → ((q : ℕ) → EndsAt root (path_by n js q) → Contains (path_by n js q) (record { 0 = x }) → turns_by n js q ≡ take (steps_to x (path_by n js q)) (turns_by n js q) ++ turns_by m js x)
         → beyond (λ (j : Joint). j.turn ∷ turns_by n js j.parent.0) o ≡ take (steps_to x (record { 0 = p } ∷ beyond (λ (j : Joint). path_by n js j.parent.0) o)) (beyond (λ (j : Joint). j.turn ∷ turns_by n js j.parent.0) o) ++ turns_by m js x
     at None other f g go = absurd (in_none (record { 0 = x }) (in_rest (record { 0 = p }) (record { 0 = x }) [] other g))
     at (Some j) other f g go =
@@ -101,23 +88,3 @@ parting_on t a b c la lb = at (first_shared (path t.joints a) (path t.joints b))
     at : (o : Option PanelId) → first_shared (path t.joints a) (path t.joints b) ≡ o → IsOnPath t a (number_or t.root o) × IsOnPath t b (number_or t.root o)
     at None e = (root_on t a c la, root_on t b c lb)
     at (Some x) e = shared_in (path t.joints a) (path t.joints b) x e
-
--- the panels of a path are panels
-on_path_in : (js : List (Option Joint)) → AreParents js → (n p x : ℕ) → p < length js → Contains (path_by n js p) (record { 0 = x }) → x < length js
-unfolding path_by
-on_path_in js parents zero p x lt h = elim (cases_Bool (nat_eq p x)) [
-  | inl same ↦ let e = eqb-true p x same in omega (arith, e, lt)
-  | inr other ↦ absurd (in_none (record { 0 = x }) (in_rest (record { 0 = p }) (record { 0 = x }) [] other h))
-]
-on_path_in js parents (suc n) p x lt h = elim (cases_Bool (nat_eq p x)) [
-  | inl same ↦ let e = eqb-true p x same in omega (arith, e, lt)
-  | inr other ↦ at (joint_of js p) (parents p) (in_rest (record { 0 = p }) (record { 0 = x }) (beyond (λ (j : Joint). path_by n js j.parent.0) (joint_of js p)) other h) (λ q l g. on_path_in js parents n q x l g)
-]
-  where
-    at : (o : Option Joint) → IfSome o (λ (j : Joint). j.parent.0 < length js) → Contains (beyond (λ (j : Joint). path_by n js j.parent.0) o) (record { 0 = x }) → ((q : ℕ) → q < length js → Contains (path_by n js q) (record { 0 = x }) → x < length js) → x < length js
-    at None in' g go = absurd (in_none (record { 0 = x }) g)
-    at (Some j) in' g go = go j.parent.0 in' g
-
-pub on_path : (t : Tree) (p x : ℕ) → IsCarton t → p < length t.panels → IsOnPath t p x → x < length t.panels
-unfolding path
-on_path t p x c lt h = let l = on_path_in t.joints (parents_in t c) LONGEST_PATH p x (let e = c.joints in omega (arith, e, lt)) h in let e = c.joints in omega (arith, e, l)

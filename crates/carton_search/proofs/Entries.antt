@@ -9,7 +9,8 @@ use Rattle.carton_search.specs.declared.known.Entry.{Entry}
 use Rattle.carton_search.specs.declared.known.Node.{Node}
 use Rattle.carton_search.specs.Knowledge.{entry_of, entries_of}
 use Rattle.carton_search.specs.Known.{Has, IsNumberOf}
-use Rattle.carton_search.proofs.Keys.{state_eq, state_eq-Decides}
+use Rattle.carton_text.proofs.Compared.{state_eq-Decides}
+use Rattle.carton_search.proofs.Keys.{state_eq}
 use Rattle.carton_search.proofs.Lists.{get_within}
 
 pub long_entries : (ss : List State) (ns : List Node) → length ss ≡ length ns → length (entries_of ss ns) ≡ length ns

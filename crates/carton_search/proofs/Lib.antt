@@ -16,3 +16,4 @@ pub mod Priorities
 pub mod Wider
 pub mod Budget
 pub mod Plans
+pub mod Same

@@ -1,23 +1,10 @@
-ghost use Rattle.std.specs.Prelude.{◌≡◌, ◌↔◌, IsTrue};
-
 use crate::counting::CountingJudge;
-use carton_base::{EdgeId, PanelId};
-use carton_fold::read_dieline;
+use carton_base::PanelId;
+use carton_cases::dielines::TRAY;
+use carton_cases::{case_of, jobs};
 use carton_judge::{GeometryJudge, RangeJudge};
 use carton_search::{SearchEnd, search};
-use carton_text::{job_for, read_job};
-use carton_tree::tree;
 use std::alloc::Global;
-
-// A base with a flap on each side; its creases are the first four edges.
-const TRAY: &str =
-    r#"{"vertices_coords":[[0,0],[100,0],[100,100],[0,100],[0,-60],[100,-60],[160,0],[160,100],[100,160],[0,160],[-60,100],[-60,0]],"edges_vertices":[[0,1],[1,2],[2,3],[3,0],[0,4],[4,5],[5,1],[1,6],[6,7],[7,2],[2,8],[8,9],[9,3],[3,10],[10,11],[11,0]],"edges_assignment":["V","V","V","V","B","B","B","B","B","B","B","B","B","B","B","B"],"faces_vertices":[[0,1,2,3],[4,5,1,0],[1,6,7,2],[3,2,8,9],[11,0,3,10]]}"#;
-
-fn are_same(first: &[EdgeId], second: &[EdgeId]) -> bool
-    ensures { IsTrue result ↔ first.now ≡ second.now }
-{
-    first == second
-}
 
 // What judges the moves of a search.
 #[derive(Clone, Copy)]
@@ -43,44 +30,31 @@ fn uncounted(end: SearchEnd) -> Outcome {
 
 // How the search for the job on the tray ends.
 fn searched(alloc: Global, job: &str, judging: Judging) -> Option<Outcome> {
-    let Ok(raw) = read_dieline(alloc, TRAY.as_bytes()) else {
-        return None;
-    };
-    let Ok(job) = read_job(alloc, job.as_bytes()) else {
-        return None;
-    };
-    let Ok(carton) = tree(alloc, &raw, job.margin, PanelId(job.root)) else {
-        return None;
-    };
-    let Ok(task) = job_for(alloc, &carton, &raw, &job) else {
-        return None;
-    };
-    if !are_same(task.creases.as_slice(), carton.creases()) {
-        return None;
-    }
+    let case = case_of(alloc, TRAY, job)?;
+    let (carton, task) = (&case.carton, &case.task);
     let start = &task.start;
     match judging {
         Judging::Anew => {
             let mut judge = CountingJudge {
                 inner: GeometryJudge {
-                    carton: &carton,
+                    carton,
                     slack: task.slack,
                 },
                 moves: 0,
             };
-            let end = search(alloc, &task, &mut judge);
+            let end = search(alloc, task, &mut judge);
             Some(Outcome {
                 end,
                 moves: judge.moves,
             })
         }
         Judging::InRange => {
-            let mut judge = RangeJudge::over(&carton, task.slack, start, &task.target);
-            Some(uncounted(search(alloc, &task, &mut judge)))
+            let mut judge = RangeJudge::over(carton, task.slack, start, &task.target);
+            Some(uncounted(search(alloc, task, &mut judge)))
         }
         Judging::PastRange => {
-            let mut judge = RangeJudge::over(&carton, task.slack, start, start);
-            Some(uncounted(search(alloc, &task, &mut judge)))
+            let mut judge = RangeJudge::over(carton, task.slack, start, start);
+            Some(uncounted(search(alloc, task, &mut judge)))
         }
     }
 }
@@ -92,9 +66,7 @@ fn end(alloc: Global, job: &str, judging: Judging) -> Option<SearchEnd> {
 
 #[test]
 fn flaps_that_rise_together_take_eight_moves(rt: HostRuntime) {
-    let job =
-        "carton job 1\nmargin 4\ntarget 0 8\ntarget 1 8\ntarget 2 8\ntarget 3 8\nteam 0 1 2 3\nend\n";
-    match end(rt.alloc(), job, Judging::Anew) {
+    match end(rt.alloc(), jobs::TOGETHER, Judging::Anew) {
         Some(SearchEnd::Found(plan)) => assert_eq!(rt; plan.states.len(), 9),
         _ => panic!(rt; "no plan"),
     }
@@ -102,8 +74,7 @@ fn flaps_that_rise_together_take_eight_moves(rt: HostRuntime) {
 
 #[test]
 fn flaps_that_would_lie_over_each_other_have_no_path(rt: HostRuntime) {
-    let job = "carton job 1\nmargin 4\ntarget 1 16\ntarget 3 16\nend\n";
-    match end(rt.alloc(), job, Judging::Anew) {
+    match end(rt.alloc(), jobs::OVER_EACH_OTHER, Judging::Anew) {
         Some(SearchEnd::NoPath) => {}
         _ => panic!(rt; "another end"),
     }
@@ -111,8 +82,7 @@ fn flaps_that_would_lie_over_each_other_have_no_path(rt: HostRuntime) {
 
 #[test]
 fn flaps_in_one_place_block_the_start(rt: HostRuntime) {
-    let job = "carton job 1\nmargin 4\nstart 1 16\nstart 3 16\ntarget 1 16\ntarget 3 16\nend\n";
-    match end(rt.alloc(), job, Judging::Anew) {
+    match end(rt.alloc(), jobs::IN_ONE_PLACE, Judging::Anew) {
         Some(
             SearchEnd::StartBlocked {
                 a: PanelId(2),
@@ -125,10 +95,8 @@ fn flaps_in_one_place_block_the_start(rt: HostRuntime) {
 
 #[test]
 fn judges_of_ranges_find_as_short_a_plan(rt: HostRuntime) {
-    let job =
-        "carton job 1\nmargin 4\ntarget 0 8\ntarget 1 8\ntarget 2 8\ntarget 3 8\nteam 0 1 2 3\nend\n";
     for judging in [Judging::InRange, Judging::PastRange] {
-        match end(rt.alloc(), job, judging) {
+        match end(rt.alloc(), jobs::TOGETHER, judging) {
             Some(SearchEnd::Found(plan)) => assert_eq!(rt; plan.states.len(), 9),
             _ => panic!(rt; "no plan"),
         }
@@ -137,9 +105,8 @@ fn judges_of_ranges_find_as_short_a_plan(rt: HostRuntime) {
 
 #[test]
 fn judges_of_ranges_see_flaps_that_would_lie_over_each_other(rt: HostRuntime) {
-    let job = "carton job 1\nmargin 4\ntarget 1 16\ntarget 3 16\nend\n";
     for judging in [Judging::InRange, Judging::PastRange] {
-        match end(rt.alloc(), job, judging) {
+        match end(rt.alloc(), jobs::OVER_EACH_OTHER, judging) {
             Some(SearchEnd::NoPath) => {}
             _ => panic!(rt; "another end"),
         }

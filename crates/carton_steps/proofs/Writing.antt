@@ -5,11 +5,11 @@ use Rattle.std.proofs.lemmas.Bool.Decides.{eqb_tells}
 use Rattle.std.proofs.lemmas.List.{take_more}
 use Rattle.std.proofs.lemmas.List.Folds.{list_any-append}
 use Rattle.std.proofs.lemmas.List.FromFn.{fill_by_all}
-use Rattle.std.proofs.Math.Bool.{Bool-set}
-use Rattle.carton_base.specs.Grid.{is_grid, IsGrid}
+use Rattle.carton_base.specs.Grid.{IsGrid}
 use Rattle.carton_base.specs.declared.limits.TheConstants.{MOST_JOINTS}
 use Rattle.carton_base.specs.declared.motion.State.{State}
 use Rattle.carton_model.specs.Moves.{stop_of}
+use Rattle.carton_text.proofs.OneTask.{same_state}
 use Rattle.carton_steps.specs.Steps.{toward, is_member, stop_after, moved}
 
 or_true : (b : Bool) → (b || true) ≡ true
@@ -38,14 +38,9 @@ one_more stride members goal at stops i p k z lt is within written before = by_p
         let more : is_member (take (i + 1) members) k ≡ is_member (take i members) k = member_more members i k lt ∙ ap (λ q. is_member (take i members) k || ((q == k) || false)) (sym is) ∙ ap (λ b. is_member (take i members) k || (b || false)) test ∙ or_false (is_member (take i members) k) in
         get_or-set_other stops p k z (pos 0) (λ e. other (sym e)) ∙ before ∙ sym (ap (λ b. cond b (toward stride (stop_of goal k) (stop_of at k)) (stop_of at k)) more)
 
--- a state is its stops and its grid
-same_state : (at : State) (stops more : List ℤ) (g : IsGrid at.grid) → stops ≡ more → ◌≡◌ {A = State} (record { stops = stops; grid = at.grid; on_grid = g }) (record at { stops = more })
-same_state at stops more g same =
-    let with_stops : List ℤ → State = λ xs. record { stops = xs; grid = at.grid; on_grid = g } in
-    let with_grid : IsGrid at.grid → State = λ h. record { stops = more; grid = at.grid; on_grid = h } in
-    ap with_stops same ∙ ap with_grid (Bool-set (is_grid at.grid) true g at.on_grid)
-
 -- the stops of all members are written
 pub all_written : (stride : ℕ) (members : List ℕ) (goal at : State) (stops : List ℤ) (g : IsGrid at.grid) → length stops ≡ MOST_JOINTS → ((k : ℕ) → k < MOST_JOINTS → get_or stops k (pos 0) ≡ stop_after stride members goal at k)
     → ◌≡◌ {A = State} (record { stops = stops; grid = at.grid; on_grid = g }) (moved stride members goal at)
-all_written stride members goal at stops g whole each = same_state at stops _ g (fill_by_all (stop_after stride members goal at) stops MOST_JOINTS (pos 0) whole each)
+all_written stride members goal at stops g whole each =
+    let same = fill_by_all (stop_after stride members goal at) stops MOST_JOINTS (pos 0) whole each in
+    same_state (record { stops = stops; grid = at.grid; on_grid = g }) (moved stride members goal at) same refl

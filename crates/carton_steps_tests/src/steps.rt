@@ -3,14 +3,11 @@ ghost use Rattle.carton_text.specs.TaskRules.{IsTask};
 ghost use Rattle.carton_steps.specs.Steps.{IsStateOf};
 
 use carton_base::{EdgeId, State};
-use carton_fold::read_dieline;
+use carton_cases::dielines::BARE_TRAY;
+use carton_cases::files_of;
 use carton_steps::{estimate, next_state};
-use carton_text::{Task, fitted, read_job};
+use carton_text::{Task, fitted};
 use std::alloc::Global;
-
-// A base with four flaps, whose creases are the first four of its edges.
-const TRAY: &str =
-    r#"{"vertices_coords":[[0,0],[100,0],[100,100],[0,100],[0,-60],[100,-60],[160,0],[160,100],[100,160],[0,160],[-60,100],[-60,0]],"edges_vertices":[[0,1],[1,2],[2,3],[3,0],[0,4],[4,5],[5,1],[1,6],[6,7],[7,2],[2,8],[8,9],[9,3],[3,10],[10,11],[11,0]],"faces_vertices":[[0,1,2,3],[4,5,1,0],[1,6,7,2],[3,2,8,9],[11,0,3,10]]}"#;
 
 // Two teams with a stride of three: edges 0 and 2, and edge 1.
 const JOB: &str =
@@ -21,13 +18,8 @@ const FOUR: [EdgeId; 4] = [EdgeId(0), EdgeId(1), EdgeId(2), EdgeId(3)];
 fn task(alloc: Global) -> Option<Task>
     ensures { IfSome result IsTask }
 {
-    let Ok(raw) = read_dieline(alloc, TRAY.as_bytes()) else {
-        return None;
-    };
-    let Ok(job) = read_job(alloc, JOB.as_bytes()) else {
-        return None;
-    };
-    fitted(alloc, &FOUR, &[], &raw, &job).ok()
+    let files = files_of(alloc, BARE_TRAY.as_bytes(), JOB.as_bytes())?;
+    fitted(alloc, &FOUR, &[], &files.dieline, &files.job).ok()
 }
 
 fn step(task: &Task, at: &State, team: u8, forward: bool) -> Option<State>

@@ -7,8 +7,8 @@ use Rattle.carton_base.specs.declared.ids.EdgeId.{EdgeId}
 use Rattle.carton_base.specs.declared.limits.TheConstants.{MOST_TURNS, WIDEST_MARGIN, WIDEST_SLACK}
 use Rattle.carton_base.specs.Steps.{◌>>=◌, refuse_if}
 use Rattle.carton_base.proofs.Steps.{both, same_ok, not_refused, only_if, count_entries, all_entries}
-use Rattle.carton_text.specs.declared.fault.Fault.{Fault}
-use Rattle.carton_text.specs.declared.fault.Fault.TheVariants.{BadLine, Range}
+use Rattle.carton_lines.specs.declared.fault.Fault.{Fault}
+use Rattle.carton_lines.specs.declared.fault.Fault.TheVariants.{BadLine, Range}
 use Rattle.carton_text.specs.declared.grid.Grid.{Grid}
 use Rattle.carton_text.specs.declared.job.Setting.{Setting}
 use Rattle.carton_text.specs.declared.job_line.TheConstants.{LAST_EDGE, MOST_MEMBERS}
@@ -17,8 +17,8 @@ use Rattle.carton_text.specs.declared.job_line.Keyword.TheVariants as word
 use Rattle.carton_text.specs.declared.job_line.JobLine.{JobLine}
 use Rattle.carton_text.specs.declared.job_line.JobLine.TheVariants.{Root, Margin, Slack, Turns, TargetsFold, Start, Target, Team}
 use Rattle.carton_text.specs.Grids.{stops_of}
-use Rattle.carton_text.specs.Numbers.{numbers_in, from_to, at_most}
-use Rattle.carton_text.specs.Lines.{words_of}
+use Rattle.carton_lines.specs.Numbers.{numbers_in, from_to, at_most}
+use Rattle.carton_lines.specs.Lines.{words_of}
 use Rattle.carton_text.specs.JobLines.{one, two, edge_in, setting_in, team_in, keyword_in, numbered, worded, line_in}
 use Rattle.carton_text.specs.JobRules.{IsEdgeNumber, IsSetting, IsTeam, IsWithin}
 

@@ -1,6 +1,5 @@
 -- A job that was read keeps every rule of its text.
-use Rattle.std.specs.Prelude.{⊤}
-use Rattle.std.proofs.Common.{◌≡◌, ◌≢◌, ℕ, ◌≤◌, ◌<◌, Bool, true, false, cond, leb, List, [], ◌∷◌, ◌++◌, length, get_or, Option, Some, None, IfSome, unwrap_or, Result, Ok, Err, IfOk, refl, sym, ap, ◌∙◌, subst, All, AllPairs, arith, rules, append_assoc, length-append, codes, bytes_eq, eq-eqb, ok_or, ℤ, lit≤}
+use Rattle.std.proofs.Common.{◌≡◌, ◌≢◌, ℕ, ◌≤◌, ◌<◌, Bool, true, false, cond, leb, List, [], ◌∷◌, ◌++◌, length, get_or, Option, Some, None, IfSome, unwrap_or, Result, Ok, Err, refl, sym, ap, ◌∙◌, subst, All, AllPairs, arith, rules, append_assoc, length-append, codes, bytes_eq, eq-eqb, ok_or, ℤ, lit≤}
 use Rattle.std.specs.List.{list_any}
 use Rattle.std.proofs.lemmas.Bool.{leb-false}
 use Rattle.std.proofs.lemmas.List.{append-nil}
@@ -13,27 +12,24 @@ use Rattle.carton_base.specs.declared.limits.TheConstants.{MOST_TEAMS, MOST_TURN
 use Rattle.carton_base.specs.Grid.{IsGrid}
 use Rattle.carton_base.specs.Steps.{◌>>=◌, refuse_if}
 use Rattle.carton_base.proofs.Steps.{both, same_ok, not_refused, unless}
-use Rattle.carton_text.specs.declared.fault.Fault.{Fault}
-use Rattle.carton_text.specs.declared.fault.Fault.TheVariants.{BadLine, Range, Duplicate}
-use Rattle.carton_text.specs.declared.fault.LineError.{LineError}
+use Rattle.carton_lines.specs.declared.fault.Fault.{Fault}
+use Rattle.carton_lines.specs.declared.fault.Fault.TheVariants.{BadLine, Range, Duplicate}
 use Rattle.carton_text.specs.declared.grid.Grid.{Grid}
 use Rattle.carton_text.specs.declared.grid.Grid.TheVariants.{Eight, Sixteen}
-use Rattle.carton_text.specs.declared.job.Job.{Job}
 use Rattle.carton_text.specs.declared.job.Setting.{Setting}
 use Rattle.carton_text.specs.declared.job.TeamLine.{TeamLine}
 use Rattle.carton_text.specs.declared.draft.Draft.{Draft}
 use Rattle.carton_text.specs.declared.job_line.JobLine.{JobLine}
 use Rattle.carton_text.specs.declared.job_line.JobLine.TheVariants.{Root, Margin, Slack, Turns, TargetsFold, Start, Target, Team}
-use Rattle.carton_text.specs.declared.job_text.Reading.{Reading}
-use Rattle.carton_text.specs.declared.job_text.Reading.TheVariants.{Before, Within, Ended}
 use Rattle.carton_text.specs.Grids.{stops_of}
-use Rattle.carton_text.specs.Jobs.{new_draft, is_same, once, set_once, name_each, add_team, add, grid_in, framed, first_line, next_line, step, told, finished}
-use Rattle.carton_text.specs.Numbers.{numbers_in, from_to}
-use Rattle.carton_text.specs.Lines.{free_lines, is_passed_over, words_of, after, read_lines}
+use Rattle.carton_text.specs.Jobs.{new_draft, is_same, once, set_once, name_each, add_team, add, grid_in, framed, first_line, later_line, job_lines, told}
+use Rattle.carton_lines.specs.Numbers.{numbers_in, from_to}
+use Rattle.carton_lines.specs.Lines.{words_of, after}
+use Rattle.carton_lines.specs.Readings.{freely_read}
 use Rattle.carton_text.specs.JobLines.{two, line_in}
 use Rattle.carton_text.specs.JobRules.{IsSetting, AreSettings, IsTeam, members, AreTeams, IsWithin, IsJob}
 use Rattle.carton_text.proofs.Kept.{IsLine, within, job_line}
-use Rattle.carton_text.proofs.Lines.{all_kept}
+use Rattle.carton_lines.proofs.Readings.{freely_kept}
 
 none_passes : {X : Type 0} (p : X → Bool) (xs : List X) → list_any p xs ≡ false → All (λ x. p x ≡ false) xs
 none_passes {X} p xs h k d lt = by_test (p (get_or xs k d)) refl
@@ -186,38 +182,13 @@ begun line d h = by_test (bytes_eq line (codes "carton job 1")) h
         let zs = both (numbers_in (words_of rest.0)) _ d rest.2 in
         framed_draft zs.0 d zs.2
 
-abbrev IsReading : Reading → Type 0
-IsReading Before = ⊤
-IsReading (Within d) = IsDraft d
-IsReading (Ended d) = IsDraft d
+line_kept : (d e : Draft) (n : ℕ) (line : List ℕ) → IsDraft d → later_line d n line ≡ Ok e → IsDraft e
+line_kept d e n line k h =
+    let l = both (line_in d.grid line) (add d n) e h in
+    add_line d e n l.0 k (job_line d.grid line l.0 l.1) l.2
 
-line_kept : (r s : Reading) (n : ℕ) (line : List ℕ) → IsReading r → next_line r n line ≡ Ok s → IsReading s
-unfolding next_line
-line_kept Before s n line k h =
-    let d = both (first_line line) _ s h in
-    subst IsReading (same_ok (Within d.0) s _ refl d.2) (begun line d.0 d.1)
-line_kept (Within d) s n line k h = by_test (bytes_eq line (codes "end")) h
-  where
-    by_test : (b : Bool) → cond b (Ok (Ended d)) (line_in d.grid line >>= add d n >>= λ e. Ok (Within e)) ≡ Ok s → IsReading s
-    by_test true e = subst IsReading (same_ok (Ended d) s _ refl e) k
-    by_test false e =
-        let added = both (line_in d.grid line >>= add d n) _ s e in
-        let l = both (line_in d.grid line) (add d n) added.0 added.1 in
-        subst IsReading (same_ok (Within added.0) s _ refl added.2) (add_line d added.0 n l.0 k (job_line d.grid line l.0 l.1) l.2)
-line_kept (Ended d) s n line k h = cc
-
-step_kept : (r s : Reading) (n : ℕ) (line : List ℕ) → IsReading r → step r n line ≡ Ok s → IsReading s
-unfolding step
-step_kept r s n line k h = by_test (is_passed_over line) h
-  where
-    by_test : (b : Bool) → cond b (Ok r) (next_line r n line) ≡ Ok s → IsReading s
-    by_test true e = subst IsReading (same_ok r s _ refl e) k
-    by_test false e = line_kept r s n line k e
-
-finished_job : (r : Reading) (j : Job) → IsReading r → finished r ≡ Ok j → IsJob j
-finished_job Before j k h = cc
-finished_job (Within d) j k h = cc
-finished_job (Ended d) j k h = subst IsJob (same_ok (told d) j _ refl h) (record {
+told_job : (d : Draft) → IsDraft d → IsJob (told d)
+told_job d k = record {
   on_grid = known_grid d.grid;
   stride = k.stride;
   margin = or_default (λ n. n ≤ WIDEST_MARGIN) d.margin 0 (omega arith) k.margin;
@@ -226,9 +197,8 @@ finished_job (Ended d) j k h = subst IsJob (same_ok (told d) j _ refl h) (record
   starts = k.starts;
   targets = k.targets;
   teams = k.teams;
-})
+}
 
--- what a reading that ended has told
-pub keeps_rules : (bytes : List ℕ) (r : Reading) (j : Result Job LineError) → read_lines step Before 0 (free_lines bytes) ≡ Ok r → j ≡ finished r → IfOk j IsJob
-keeps_rules bytes r (Ok j) h e = finished_job r j (all_kept IsReading step step_kept Before r 0 (free_lines bytes) tt h) (sym e)
-keeps_rules bytes r (Err fault) h e = tt
+-- what a text that was read has told
+pub keeps_rules : (bytes : List ℕ) (d : Draft) → freely_read job_lines bytes ≡ Ok d → IsJob (told d)
+keeps_rules bytes d h = told_job d (freely_kept job_lines IsDraft begun line_kept bytes d h)

@@ -1,5 +1,5 @@
 -- A task that a job gives keeps the limits.
-use Rattle.std.proofs.Common.{◌≡◌, ◌≢◌, ℕ, ◌+◌, ◌<◌, ◌≤◌, ℤ, pos, Bool, ◌&&◌, is_none, List, length, map, get_or, Option, IfSome, Result, Ok, Err, IfOk, All, AllPairs, refl, sym, ap, ◌∙◌, subst, arith}
+use Rattle.std.proofs.Common.{◌≡◌, ℕ, ◌<◌, ◌≤◌, ℤ, pos, ◌&&◌, is_none, List, length, map, get_or, Option, IfSome, Result, Ok, Err, IfOk, All, refl, sym, ap, ◌∙◌, subst, arith}
 use Rattle.std.proofs.lemmas.List.{length-map, get_or_past}
 use Rattle.std.proofs.lemmas.List.Elements.{All-map}
 use Rattle.std.proofs.lemmas.List.FromFn.{get_or-map-range_with_len}
@@ -7,14 +7,13 @@ use Rattle.carton_base.specs.declared.ids.EdgeId.{EdgeId}
 use Rattle.carton_base.specs.declared.ids.Stop.{Stop}
 use Rattle.carton_base.specs.declared.limits.TheConstants.{MOST_JOINTS, MOST_TURNS, WIDEST_SLACK, WIDEST_STEP}
 use Rattle.carton_base.specs.declared.motion.State.{State}
-use Rattle.carton_base.specs.Steps.{◌>>=◌, Gives, refuse_if, entries_from}
+use Rattle.carton_base.specs.Steps.{Gives, refuse_if, entries_from}
 use Rattle.carton_base.proofs.Steps.{both, same_ok, count_entries, all_entries}
 use Rattle.carton_model.specs.Dielines.{AreAngles}
 use Rattle.carton_model.specs.Moves.{IsStop, IsState}
 use Rattle.carton_text.specs.declared.course.Course.{Course}
 use Rattle.carton_text.specs.declared.job.Job.{Job}
 use Rattle.carton_text.specs.declared.task.Task.{Task}
-use Rattle.carton_text.specs.declared.task.Team.{Team}
 use Rattle.carton_text.specs.declared.job_error.JobError.{JobError}
 use Rattle.carton_text.specs.declared.job_error.JobError.TheVariants.{NoAngles, Memory}
 use Rattle.carton_text.specs.JobRules.{IsJob, IsWithin}

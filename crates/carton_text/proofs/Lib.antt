@@ -1,7 +1,4 @@
-pub mod Items
-pub mod Lines
 pub mod Naming
-pub mod Digits
 pub mod Kept
 pub mod KeptJobs
 pub mod Finding
@@ -12,13 +9,12 @@ pub mod KeptTasks
 pub mod Pieces
 pub mod Thousandths
 pub mod Still
-pub mod StrictLines
-pub mod Lower
 pub mod PlanStops
 pub mod Rising
-pub mod Numerals
-pub mod SpelledLines
 pub mod PlanEntries
 pub mod PlansRead
 pub mod PlansWritten
 pub mod OneSpelling
+pub mod OneTask
+pub mod PlanCreases
+pub mod Compared

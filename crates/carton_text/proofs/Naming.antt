@@ -2,8 +2,8 @@
 use Rattle.std.proofs.Common.{◌≡◌, List, [], ◌∷◌, ◌++◌, true, false, Result, Ok, Err, refl, sym, ◌∙◌}
 use Rattle.std.specs.List.{list_any}
 use Rattle.carton_base.specs.declared.ids.EdgeId.{EdgeId}
-use Rattle.carton_text.specs.declared.fault.Fault.{Fault}
-use Rattle.carton_text.specs.declared.fault.Fault.TheVariants.{Duplicate}
+use Rattle.carton_lines.specs.declared.fault.Fault.{Fault}
+use Rattle.carton_lines.specs.declared.fault.Fault.TheVariants.{Duplicate}
 use Rattle.carton_text.specs.Jobs.{is_same, name_each}
 
 -- the next edge is new

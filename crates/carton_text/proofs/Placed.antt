@@ -1,22 +1,20 @@
 -- The places of teams: each within the joints, and none twice.
-use Rattle.std.specs.Prelude.{⊤}
-use Rattle.std.proofs.Common.{◌≡◌, ◌≢◌, ℕ, suc, ◌+◌, ◌<◌, ◌≤◌, Bool, true, false, cond, not, ◌&&◌, ◌||◌, List, [], ◌∷◌, ◌++◌, length, Option, Some, None, Result, Ok, Err, flat_map, filter_map, All, AllPairs, refl, sym, ap, ◌∙◌, subst, arith, ltb, eq-eqb}
+use Rattle.std.proofs.Common.{◌≡◌, ◌≢◌, ℕ, suc, ◌+◌, ◌<◌, ◌≤◌, Bool, true, false, cond, not, ◌&&◌, ◌||◌, List, [], ◌∷◌, ◌++◌, length, Some, Ok, filter_map, All, AllPairs, refl, sym, ap, ◌∙◌, subst, arith, ltb, eq-eqb}
 use Rattle.std.specs.List.{AllByRecursion, list_any}
 use Rattle.std.proofs.lemmas.Bool.{ltb-false, eqb-true}
 use Rattle.std.proofs.lemmas.List.Elements.{All-from_recursion, filter_map-append}
 use Rattle.std.proofs.lemmas.Grind.{flat_map-append}
 use Rattle.carton_base.specs.declared.ids.EdgeId.{EdgeId}
 use Rattle.carton_base.specs.declared.limits.TheConstants.{MOST_TEAMS}
-use Rattle.carton_base.specs.Steps.{◌>>=◌, refuse_if, entries_from}
+use Rattle.carton_base.specs.Steps.{refuse_if, entries_from}
 use Rattle.carton_base.proofs.Steps.{both, same_ok, unless}
 use Rattle.carton_text.specs.declared.course.Course.{Course}
 use Rattle.carton_text.specs.declared.job.TeamLine.{TeamLine}
 use Rattle.carton_text.specs.declared.task.Team.{Team}
-use Rattle.carton_text.specs.declared.job_error.JobError.{JobError}
 use Rattle.carton_text.specs.declared.job_error.JobError.TheVariants.{EmptyTeam, TooManyTeams}
 use Rattle.carton_text.specs.Jobs.{is_same}
 use Rattle.carton_text.specs.JobRules.{members}
-use Rattle.carton_text.specs.Tasks.{is_among, moves, has_to_move, place_from, places, team_of, lone_teams, not_too_many, teams_of}
+use Rattle.carton_text.specs.Tasks.{is_among, moves, has_to_move, place_from, places, team_of, lone_teams, teams_of}
 use Rattle.carton_text.specs.TaskRules.{all_places, AreTeamsOf}
 use Rattle.carton_text.proofs.Apart.{Apart, apart_from_pairs, pairs_from_apart, all_joined, apart_joined, all_of, found, found_apart}
 

@@ -8,22 +8,22 @@ use Rattle.carton_base.specs.declared.ids.EdgeId.{EdgeId}
 use Rattle.carton_base.specs.Steps.{refuse_if, entries_from}
 use Rattle.carton_base.proofs.Steps.{both, same_ok, not_refused, only_if}
 use Rattle.carton_model.specs.Moves.{IsStop}
-use Rattle.carton_text.specs.declared.fault.Fault.{Fault}
-use Rattle.carton_text.specs.declared.fault.Fault.TheVariants.{BadLine, Range}
+use Rattle.carton_lines.specs.declared.fault.Fault.{Fault}
+use Rattle.carton_lines.specs.declared.fault.Fault.TheVariants.{BadLine, Range}
 use Rattle.carton_text.specs.declared.grid.Grid.{Grid}
 use Rattle.carton_text.specs.declared.grid.Grid.TheVariants.{Eight, Sixteen}
 use Rattle.carton_text.specs.declared.job_line.TheConstants.{LAST_EDGE}
 use Rattle.carton_text.specs.declared.plan.TheConstants.{MOST_CREASES}
 use Rattle.carton_text.specs.Grids.{stops_of}
-use Rattle.carton_text.specs.Numbers.{from_to, at_most}
-use Rattle.carton_text.specs.Lines.{words_of}
-use Rattle.carton_text.specs.StrictLines.{numbers_after, spaced}
+use Rattle.carton_lines.specs.Numbers.{from_to, at_most}
+use Rattle.carton_lines.specs.Lines.{words_of}
+use Rattle.carton_lines.specs.StrictLines.{numbers_after, spaced}
 use Rattle.carton_text.specs.JobLines.{edge_in}
 use Rattle.carton_text.specs.JobRules.{IsEdgeNumber}
 use Rattle.carton_text.specs.PlanRules.{AreCreases}
 use Rattle.carton_text.specs.Plans.{is_increasing, creases_told, stops_told}
 use Rattle.carton_text.proofs.Rising.{numbers_of, all_rising, told_rising}
-use Rattle.carton_text.proofs.SpelledLines.{AreSmall, lacks, line_spelled, spelled_line}
+use Rattle.carton_lines.proofs.SpelledLines.{AreSmall, lacks, line_spelled, spelled_line}
 
 edge_is : (z : ℤ) (e : EdgeId) → edge_in z ≡ Ok e → (z ≡ pos e.0) × IsEdgeNumber e
 edge_is (pos n) e h =

@@ -11,7 +11,7 @@ use Rattle.carton_base.specs.declared.ids.EdgeId.{EdgeId}
 use Rattle.carton_text.specs.declared.grid.Grid.{Grid}
 use Rattle.carton_model.specs.Moves.{IsStop, IsState, stop_of}
 use Rattle.carton_text.specs.Grids.{stops_of}
-use Rattle.carton_text.specs.StrictLines.{spaced}
+use Rattle.carton_lines.specs.StrictLines.{spaced}
 use Rattle.carton_text.specs.Tasks.{stop_at, all_stops}
 use Rattle.carton_text.specs.PlainPlans.{PlainState, plain_state}
 use Rattle.carton_text.specs.Plans.{joint_stops, stops_told, with_state}

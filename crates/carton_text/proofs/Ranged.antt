@@ -1,6 +1,5 @@
 -- The stops of a task lie on its grid.
-use Rattle.std.specs.Prelude.{⊤}
-use Rattle.std.proofs.Common.{◌≡◌, ℕ, ◌+◌, ◌*◌, ◌/◌, ◌<◌, ◌≤◌, ℤ, pos, ◌*ℤ◌, unsigned_abs, Bool, true, false, cond, ◌||◌, List, [], ◌∷◌, length, map, get_or, Option, Some, None, IfSome, option_map, option_and_then, unwrap_or, ok_or, Result, Ok, Err, slice_get, All, refl, sym, ap, ◌∙◌, subst, arith, lit≤, eqb, inl, inr}
+use Rattle.std.proofs.Common.{◌≡◌, ℕ, ◌/◌, ◌≤◌, ℤ, pos, ◌*ℤ◌, unsigned_abs, Bool, true, false, cond, ◌||◌, List, [], ◌∷◌, Option, Some, None, IfSome, option_map, option_and_then, unwrap_or, ok_or, Ok, slice_get, refl, sym, subst, arith, lit≤, eqb, inl, inr}
 use Rattle.std.specs.List.{AllByRecursion}
 use Rattle.std.proofs.lemmas.Bool.{eqb-true}
 use Rattle.std.proofs.lemmas.Int.{ints}
@@ -9,14 +8,12 @@ use Rattle.std.proofs.lemmas.List.Elements.{recursion_from_All}
 use Rattle.carton_base.specs.declared.ids.EdgeId.{EdgeId}
 use Rattle.carton_base.specs.declared.ids.Stop.{Stop}
 use Rattle.carton_base.specs.Grid.{IsGrid}
-use Rattle.carton_base.specs.Steps.{◌>>=◌}
 use Rattle.carton_base.proofs.Steps.{both, same_ok, was_some}
 use Rattle.carton_model.specs.Dielines.{IsRightAngled, AreAngles}
 use Rattle.carton_model.specs.Moves.{IsStop}
 use Rattle.carton_text.specs.declared.course.Course.{Course}
 use Rattle.carton_text.specs.declared.job.Job.{Job}
 use Rattle.carton_text.specs.declared.job.Setting.{Setting}
-use Rattle.carton_text.specs.declared.job_error.JobError.{JobError}
 use Rattle.carton_text.specs.declared.job_error.JobError.TheVariants.{AngleNotExact}
 use Rattle.carton_text.specs.Jobs.{is_same}
 use Rattle.carton_text.specs.JobRules.{IsSetting, IsJob}

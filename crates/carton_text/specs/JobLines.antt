@@ -2,8 +2,8 @@
 use Rattle.std.specs.Prelude.{ℕ, ◌*◌, ℤ, List, [], ◌∷◌, length, nat_eq, nat_lt, bytes_eq, if◌then◌else◌, Option, Some, None, ok_or, Result, Ok, Err, codes}
 use Rattle.carton_base.specs.declared.limits.TheConstants.{MOST_TURNS, WIDEST_MARGIN, WIDEST_SLACK}
 use Rattle.carton_base.specs.declared.ids.EdgeId.{EdgeId}
-use Rattle.carton_text.specs.declared.fault.Fault.{Fault}
-use Rattle.carton_text.specs.declared.fault.Fault.TheVariants.{BadLine, Range}
+use Rattle.carton_lines.specs.declared.fault.Fault.{Fault}
+use Rattle.carton_lines.specs.declared.fault.Fault.TheVariants.{BadLine, Range}
 use Rattle.carton_text.specs.declared.grid.Grid.{Grid}
 use Rattle.carton_text.specs.declared.job.Setting.{Setting}
 use Rattle.carton_text.specs.declared.job_line.TheConstants.{LAST_EDGE, MOST_MEMBERS}
@@ -12,9 +12,9 @@ use Rattle.carton_text.specs.declared.job_line.Keyword.TheVariants.{Root, Margin
 use Rattle.carton_text.specs.declared.job_line.JobLine.{JobLine}
 use Rattle.carton_text.specs.declared.job_line.JobLine.TheVariants.{Root as RootLine, Margin as MarginLine, Slack as SlackLine, Turns as TurnsLine, TargetsFold, Start as StartLine, Target as TargetLine, Team as TeamLine}
 use Rattle.carton_base.specs.Steps.{◌>>=◌, refuse_if, entries_from}
-use Rattle.carton_text.specs.Numbers.{numbers_in, from_to, at_most}
+use Rattle.carton_lines.specs.Numbers.{numbers_in, from_to, at_most}
 use Rattle.carton_text.specs.Grids.{stops_of}
-use Rattle.carton_text.specs.Lines.{words_of}
+use Rattle.carton_lines.specs.Lines.{words_of}
 
 -- one number alone
 abbrev pub one : List ℤ → Result ℤ Fault

@@ -4,10 +4,9 @@ use Rattle.std.specs.List.{list_any}
 use Rattle.std.specs.Ordering.{int_eq}
 use Rattle.carton_base.specs.declared.limits.TheConstants.{MOST_TEAMS, MOST_TURNS, WIDEST_STEP}
 use Rattle.carton_base.specs.declared.ids.EdgeId.{EdgeId}
-use Rattle.carton_text.specs.declared.fault.Fault.{Fault}
-use Rattle.carton_text.specs.declared.fault.Fault.TheVariants.{BadLine, Range, Duplicate}
-use Rattle.carton_text.specs.declared.fault.LineError.{LineError}
-use Rattle.carton_text.specs.declared.fault.LineError.TheVariants.{NoEnd}
+use Rattle.carton_lines.specs.declared.fault.Fault.{Fault}
+use Rattle.carton_lines.specs.declared.fault.Fault.TheVariants.{BadLine, Range, Duplicate}
+use Rattle.carton_lines.specs.declared.fault.LineError.{LineError}
 use Rattle.carton_text.specs.declared.grid.Grid.{Grid}
 use Rattle.carton_text.specs.declared.grid.Grid.TheVariants.{Eight, Sixteen}
 use Rattle.carton_text.specs.declared.job.Job.{Job}
@@ -15,12 +14,12 @@ use Rattle.carton_text.specs.declared.job.Setting.{Setting}
 use Rattle.carton_text.specs.declared.job_line.JobLine.{JobLine}
 use Rattle.carton_text.specs.declared.job_line.JobLine.TheVariants.{Root, Margin, Slack, Turns, TargetsFold, Start, Target, Team}
 use Rattle.carton_text.specs.declared.draft.Draft.{Draft}
-use Rattle.carton_text.specs.declared.job_text.Reading.{Reading}
-use Rattle.carton_text.specs.declared.job_text.Reading.TheVariants.{Before, Within, Ended}
 use Rattle.carton_base.specs.Steps.{◌>>=◌, refuse_if}
 use Rattle.carton_text.specs.Grids.{stops_of}
-use Rattle.carton_text.specs.Numbers.{numbers_in, from_to}
-use Rattle.carton_text.specs.Lines.{free_lines, is_passed_over, words_of, after, read_lines}
+use Rattle.carton_lines.specs.Numbers.{numbers_in, from_to}
+use Rattle.carton_lines.specs.Lines.{words_of, after}
+use Rattle.carton_lines.specs.Grammars.{Grammar}
+use Rattle.carton_lines.specs.Readings.{freely_read}
 use Rattle.carton_text.specs.JobLines.{two, line_in}
 
 -- a job of which no line has told anything yet
@@ -96,15 +95,13 @@ first_line line =
       numbers ← numbers_in (words_of rest)
       framed numbers)
 
--- a line that isn't passed over, after those that were read
-unfoldable pub next_line : Reading → ℕ → List ℕ → Result Reading Fault
-next_line Before n line = first_line line >>= λ d. Ok (Within d)
-next_line (Within d) n line = if bytes_eq line (codes "end") then Ok (Ended d) else (line_in d.grid line >>= add d n >>= λ e. Ok (Within e))
-next_line (Ended d) n line = Err BadLine
+-- line n after the first
+abbrev pub later_line : Draft → ℕ → List ℕ → Result Draft Fault
+later_line d n line = line_in d.grid line >>= add d n
 
--- line n after those that were read: an empty line or a comment changes nothing
-unfoldable pub step : Reading → ℕ → List ℕ → Result Reading Fault
-step reading n line = if is_passed_over line then Ok reading else next_line reading n line
+-- the lines of a job, after any of which `end` may stand
+abbrev pub job_lines : Grammar Draft
+job_lines = record { begin = first_line; take = later_line; may_end = λ d. true }
 
 -- the job that the lines up to `end` told
 abbrev pub told : Draft → Job
@@ -121,12 +118,6 @@ told d = record {
   teams = d.teams;
 }
 
--- what the lines told in all, if one of them was `end`
-abbrev pub finished : Reading → Result Job LineError
-finished Before = Err NoEnd
-finished (Within d) = Err NoEnd
-finished (Ended d) = Ok (told d)
-
 -- the job of the bytes of a text
 unfoldable pub job_of : List ℕ → Result Job LineError
-job_of bytes = read_lines step Before 0 (free_lines bytes) >>= finished
+job_of bytes = freely_read job_lines bytes >>= λ d. Ok (told d)

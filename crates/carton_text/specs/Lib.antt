@@ -1,5 +1,3 @@
-pub mod Numbers
-pub mod Lines
 pub mod Grids
 pub mod JobLines
 pub mod Jobs
@@ -8,7 +6,6 @@ pub mod Tasks
 pub mod TaskRules
 pub mod CartonTasks
 pub mod Poses
-pub mod StrictLines
 pub mod PlainPlans
 pub mod PlanRules
 pub mod Plans

@@ -1,26 +1,27 @@
 -- The plan of a text, or the first rule that fails; and the text of a plan.
 use Rattle.std.specs.Prelude.{◌≡◌, ◌↔◌, ℕ, ◌*◌, ℤ, pos, ◌++◌, List, [], ◌∷◌, length, map, flat_map, int_lt, not, nat_eq, nat_lt, nat_le, bytes_eq, ◌&&◌, Bool, true, false, if◌then◌else◌, Result, Ok, Err, codes}
 use Rattle.std.specs.List.{range_with_len}
-use Rattle.bstr.specs.Text.{lines_of}
 use Rattle.carton_base.specs.declared.limits.TheConstants.{MOST_STATES}
 use Rattle.carton_base.specs.declared.ids.EdgeId.{EdgeId}
 use Rattle.carton_base.specs.declared.motion.State.{State}
 use Rattle.carton_base.specs.Steps.{◌>>=◌, refuse_if, entries_from}
 use Rattle.carton_model.specs.Moves.{stop_of}
-use Rattle.carton_text.specs.declared.fault.Fault.{Fault}
-use Rattle.carton_text.specs.declared.fault.Fault.TheVariants.{BadLine, Range}
-use Rattle.carton_text.specs.declared.fault.LineError.{LineError}
-use Rattle.carton_text.specs.declared.fault.LineError.TheVariants.{NoEnd}
+use Rattle.carton_lines.specs.declared.fault.Fault.{Fault}
+use Rattle.carton_lines.specs.declared.fault.Fault.TheVariants.{BadLine, Range}
+use Rattle.carton_lines.specs.declared.fault.LineError.{LineError}
+use Rattle.carton_lines.specs.declared.fault.LineError.TheVariants.{NoEnd}
 use Rattle.carton_text.specs.declared.grid.Grid.{Grid}
 use Rattle.carton_text.specs.declared.grid.Grid.TheVariants.{Eight, Sixteen}
 use Rattle.carton_text.specs.declared.plan.TheConstants.{MOST_CREASES}
 use Rattle.carton_text.specs.declared.plan.Plan.{Plan}
 use Rattle.carton_text.specs.declared.plan_text.PlanReading.{PlanReading}
-use Rattle.carton_text.specs.declared.plan_text.PlanReading.TheVariants.{Before, Headed, Within, Ended}
+use Rattle.carton_text.specs.declared.plan_text.PlanReading.TheVariants.{Headed, Within}
 use Rattle.carton_text.specs.Grids.{stops_of}
-use Rattle.carton_text.specs.Numbers.{at_most}
-use Rattle.carton_text.specs.Lines.{words_of}
-use Rattle.carton_text.specs.StrictLines.{read_strictly, numbers_after, spelled}
+use Rattle.carton_lines.specs.Numbers.{at_most}
+use Rattle.carton_lines.specs.Lines.{words_of}
+use Rattle.carton_lines.specs.StrictLines.{numbers_after, spelled}
+use Rattle.carton_lines.specs.Grammars.{Grammar}
+use Rattle.carton_lines.specs.Readings.{strictly_read}
 use Rattle.carton_text.specs.JobLines.{edge_in}
 use Rattle.carton_text.specs.Tasks.{all_stops}
 use Rattle.carton_text.specs.PlainPlans.{PlainState, PlainPlan, PlanSoFar, plain}
@@ -64,33 +65,32 @@ with_state d line = do
   fine ← refuse_if (nat_le MOST_STATES (length d.states)) Range
   Ok (record d { states = d.states ++ state_of d.grid stops ∷ [] })
 
+-- the first line tells the grid
+abbrev pub begun : List ℕ → Result PlanReading Fault
+begun line = grid_told line >>= λ grid. Ok (Headed grid)
+
+-- the second line tells the creases, and each later one a state
+abbrev pub plan_line : PlanReading → ℕ → List ℕ → Result PlanReading Fault
+plan_line (Headed grid) n line = creases_told line >>= λ creases. Ok (Within (record { grid = grid; creases = creases; states = [] }))
+plan_line (Within d) n line = with_state d line >>= λ e. Ok (Within e)
+
 -- `end` ends a plan that has a state
-abbrev pub ended : PlanSoFar → Result PlanReading Fault
-ended d = if nat_eq (length d.states) 0 then Err BadLine else Ok (Ended d)
+abbrev pub may_end : PlanReading → Bool
+may_end (Headed grid) = false
+may_end (Within d) = not (nat_eq (length d.states) 0)
 
--- a whole line after those that were read
-unfoldable pub plan_line : PlanReading → List ℕ → Result PlanReading Fault
-plan_line Before line = grid_told line >>= λ grid. Ok (Headed grid)
-plan_line (Headed grid) line = creases_told line >>= λ creases. Ok (Within (record { grid = grid; creases = creases; states = [] }))
-plan_line (Within d) line = if bytes_eq line (codes "end") then ended d else (with_state d line >>= λ e. Ok (Within e))
-plan_line (Ended d) line = Err BadLine
+-- the lines of a plan
+abbrev pub plan_lines : Grammar PlanReading
+plan_lines = record { begin = begun; take = plan_line; may_end = may_end }
 
-abbrev pub has_ended : PlanReading → Bool
-has_ended Before = false
-has_ended (Headed grid) = false
-has_ended (Within d) = false
-has_ended (Ended d) = true
-
--- what the lines told in all, if one of them was `end`
+-- what the lines told in all
 abbrev pub plan_told : PlanReading → Result PlainPlan LineError
-plan_told Before = Err NoEnd
 plan_told (Headed grid) = Err NoEnd
-plan_told (Within d) = Err NoEnd
-plan_told (Ended d) = Ok (record { creases = d.creases; states = d.states })
+plan_told (Within d) = Ok (record { creases = d.creases; states = d.states })
 
 -- the plan of the bytes of a text
 unfoldable pub plan_of : List ℕ → Result PlainPlan LineError
-plan_of bytes = read_strictly has_ended plan_line Before 0 (lines_of bytes) >>= plan_told
+plan_of bytes = strictly_read plan_lines bytes >>= plan_told
 
 -- the first line of a plan of the grid
 abbrev pub first_line : ℕ → List ℕ

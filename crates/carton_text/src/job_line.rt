@@ -1,14 +1,12 @@
 ghost use Rattle.std.specs.Prelude.{◌≡◌, map, option_map, Result, Ok, Err};
 ghost use Rattle.carton_base.specs.Steps.{entries_from};
-ghost use Rattle.carton_text.specs.Lines.{Gives};
+ghost use Rattle.carton_lines.specs.Lines.{Gives};
 ghost use Rattle.carton_text.specs.JobLines.{one as one_in, two as two_in, edge_in, setting_in, team_in, keyword_in, numbered, worded, line_in};
 
-use crate::cutting::words;
-use crate::decimals::{Numeral, numbers};
-use crate::fault::Fault;
 use crate::grid::Grid;
 use crate::job::Setting;
 use carton_base::{EdgeId, Listed, MOST_TURNS, Stop, WIDEST_MARGIN, WIDEST_SLACK};
+use carton_lines::{Fault, Numeral, numbers, words};
 use std::alloc::Global;
 
 /// The greatest number of an edge.

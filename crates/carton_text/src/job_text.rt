@@ -1,28 +1,15 @@
 ghost use Rattle.std.specs.Prelude.{◌≡◌, IfOk};
+ghost use Rattle.carton_lines.specs.Lines.{Gives, GivesLines};
 ghost use Rattle.carton_text.specs.JobRules.{IsJob};
-ghost use Rattle.carton_text.specs.Lines.{Gives, GivesLines, free_lines, told_at, read_lines};
-ghost use Rattle.carton_text.specs.Jobs.{grid_in, framed, first_line as first_line_in, next_line, step, finished, job_of};
+ghost use Rattle.carton_text.specs.Jobs.{grid_in, framed, first_line as first_line_in, job_of};
 
-use crate::cutting::{after, is_passed_over, words};
-use crate::decimals::{Numeral, numbers};
 use crate::draft::Draft;
-use crate::fault::{Fault, LineError};
 use crate::grid::Grid;
 use crate::job::Job;
 use crate::job_line::{job_line, two};
-use bstr::ByteSlice;
 use carton_base::WIDEST_STEP;
+use carton_lines::{Fault, LineError, LineText, Numeral, after, numbers, read_freely, words};
 use std::alloc::Global;
-
-/// How far the lines of a job were read.
-#[derive(Drop)]
-pub enum Reading {
-    /// No line was read that isn't passed over.
-    Before,
-    /// The first line was read, and `end` was not.
-    Within(Draft),
-    Ended(Draft),
-}
 
 fn grid(number: &Numeral<'_>) -> Result<Grid, Fault>
     ensures { result ≡ grid_in number.now }
@@ -59,56 +46,23 @@ fn first_line(alloc: Global, line: &[u8]) -> Result<Draft, Fault>
     framed_draft(alloc, &numbers)
 }
 
-impl Reading {
-    #[tactic(auto, unfolding(crate::specs::Jobs::next_line))]
-    fn next_line(self, alloc: Global, number: u32, line: &[u8]) -> Result<Reading, Fault>
-        ensures { Gives (λ r. r) result (next_line self number line.now) }
-    {
-        match self {
-            Reading::Before => Ok(Reading::Within(first_line(alloc, line)?)),
-            Reading::Within(draft) => if line == b"end".as_slice() {
-                Ok(Reading::Ended(draft))
-            } else {
-                let line = job_line(alloc, draft.grid, line)?;
-                Ok(Reading::Within(draft.add(number, line)?))
-            },
-            Reading::Ended(_) => Err(Fault::BadLine),
-        }
+impl LineText for Draft {
+    ghost use Rattle.carton_text.specs.Jobs.{job_lines};
+
+    ghost grammar = { job_lines };
+
+    fn begin(alloc: Global, line: &[u8]) -> Result<Draft, Fault> {
+        first_line(alloc, line)
     }
 
-    #[tactic(auto, unfolding(crate::specs::Jobs::step))]
-    fn step(self, alloc: Global, number: u32, line: &[u8]) -> Result<Reading, LineError>
-        ensures { GivesLines (λ r. r) result (told_at number (step self number line.now)) }
-    {
-        if is_passed_over(line) {
-            return Ok(self);
-        }
-        match self.next_line(alloc, number, line) {
-            Ok(reading) => Ok(reading),
-            Err(fault) => Err(fault.at(number)),
-        }
+    fn take(self, alloc: Global, number: u32, line: &[u8]) -> Result<Draft, Fault> {
+        let line = job_line(alloc, self.grid, line)?;
+        self.add(number, line)
     }
 
-    fn finish(self) -> Result<Job, LineError>
-        ensures { result ≡ finished self }
-    {
-        match self {
-            Reading::Ended(draft) => Ok(draft.told()),
-            _ => Err(LineError::NoEnd),
-        }
+    fn may_end(&self) -> bool {
+        true
     }
-}
-
-fn read_all(alloc: Global, bytes: &[u8]) -> Result<Reading, LineError>
-    ensures { GivesLines (λ r. r) result (read_lines step Reading.Before 0 (free_lines bytes.now)) }
-{
-    let mut reading = Reading::Before;
-    let mut number: u32 = 0;
-    for line in bytes.lines() {
-        number = number.saturating_add(1);
-        reading = reading.step(alloc, number, line)?;
-    }
-    Ok(reading)
 }
 
 /// The job of the bytes of a text.
@@ -121,5 +75,5 @@ pub fn read_job(alloc: Global, bytes: &[u8]) -> Result<Job, LineError>
     ensures reads { GivesLines (λ j. j) result (job_of bytes.now) }
     ensures keeps_rules { IfOk result IsJob }
 {
-    read_all(alloc, bytes)?.finish()
+    Ok(read_freely::<Draft>(alloc, bytes)?.told())
 }

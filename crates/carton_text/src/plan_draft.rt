@@ -1,14 +1,14 @@
 ghost use Rattle.std.specs.Prelude.{◌≡◌, [], length, nat_eq};
-ghost use Rattle.carton_text.specs.Lines.{Gives};
+ghost use Rattle.carton_lines.specs.Lines.{Gives};
 ghost use Rattle.carton_text.specs.PlainPlans.{plain};
 ghost use Rattle.carton_text.specs.Plans.{with_state as with_state_in};
 
-use crate::fault::Fault;
 use crate::fitting::all_stops;
 use crate::grid::Grid;
 use crate::plan::Plan;
 use crate::plan_lines::stops_told;
 use carton_base::{EdgeId, Listed, MOST_STATES, State};
+use carton_lines::Fault;
 use std::alloc::Global;
 use std::marker::Model;
 

@@ -1,17 +1,15 @@
 ghost use Rattle.std.specs.Prelude.{◌≡◌, ◌*◌};
 ghost use Rattle.carton_base.specs.Steps.{entries_from};
 ghost use Rattle.carton_text.specs.Grids.{stops_of};
-ghost use Rattle.carton_text.specs.Lines.{Gives};
-ghost use Rattle.carton_text.specs.Numbers.{at_most};
+ghost use Rattle.carton_lines.specs.Lines.{Gives};
+ghost use Rattle.carton_lines.specs.Numbers.{at_most};
 ghost use Rattle.carton_text.specs.Plans.{grid_told as grid_told_in, is_increasing as is_increasing_in, creases_told as creases_told_in, stops_told as stops_told_in};
 
-use crate::decimals::Numeral;
-use crate::fault::Fault;
 use crate::grid::Grid;
 use crate::job_line::edges;
 use crate::plan::MOST_CREASES;
-use crate::strict_lines::numbers_after;
 use carton_base::{EdgeId, Listed};
+use carton_lines::{Fault, Numeral, numbers_after};
 use std::alloc::Global;
 
 /// The grid that the first line of a plan tells.

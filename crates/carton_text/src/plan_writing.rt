@@ -1,6 +1,6 @@
 ghost use Rattle.std.specs.Prelude.{◌≡◌, ◌≤◌, ◌++◌, map, flat_map, length, pos, string_bytes, OnOk, IfOk};
 ghost use Rattle.carton_base.specs.declared.limits.TheConstants.{MOST_JOINTS};
-ghost use Rattle.carton_text.specs.StrictLines.{spaced};
+ghost use Rattle.carton_lines.specs.StrictLines.{spaced};
 ghost use Rattle.carton_text.specs.PlanRules.{grid_of, IsPlan};
 ghost use Rattle.carton_text.specs.Plans.{first_line as first_line_in, creases_line, joint_stops, state_line, spelling};
 

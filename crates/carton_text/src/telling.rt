@@ -1,14 +1,14 @@
 ghost use Rattle.std.specs.Prelude.{◌≡◌, ◌≤◌, Option, Result, Ok};
 ghost use Rattle.std.specs.List.{list_any};
-ghost use Rattle.carton_text.specs.Lines.{Gives};
+ghost use Rattle.carton_lines.specs.Lines.{Gives};
 ghost use Rattle.carton_text.specs.Jobs.{new_draft, once as once_in, set_once as set_once_in, name_each as name_each_in, add_team as add_team_in, add as add_in, told as told_in, is_same};
 
 use crate::draft::Draft;
-use crate::fault::Fault;
 use crate::grid::Grid;
 use crate::job::{Job, Setting, TeamLine};
 use crate::job_line::JobLine;
 use carton_base::{EdgeId, Listed, MOST_TEAMS, MOST_TURNS};
+use carton_lines::Fault;
 use std::alloc::Global;
 
 fn once<T: Copy>(earlier: Option<T>, value: T) -> Result<Option<T>, Fault>

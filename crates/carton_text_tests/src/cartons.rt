@@ -1,24 +1,16 @@
 use carton_base::{EdgeId, PanelId};
-use carton_fold::read_dieline;
-use carton_text::{JobError, Task, job_for, read_job};
+use carton_cases::dielines::LOCKED_TRAY;
+use carton_cases::files_of;
+use carton_text::{JobError, Task, job_for};
 use carton_tree::tree;
 use std::alloc::{AllocError, Global};
 
-// A base with four flaps; the letter F locks the crease of edge 2.
-const TRAY: &str =
-    r#"{"vertices_coords":[[0,0],[100,0],[100,100],[0,100],[0,-60],[100,-60],[160,0],[160,100],[100,160],[0,160],[-60,100],[-60,0]],"edges_vertices":[[0,1],[1,2],[2,3],[3,0],[0,4],[4,5],[5,1],[1,6],[6,7],[7,2],[2,8],[8,9],[9,3],[3,10],[10,11],[11,0]],"edges_assignment":["V","V","F","V","B","B","B","B","B","B","B","B","B","B","B","B"],"faces_vertices":[[0,1,2,3],[4,5,1,0],[1,6,7,2],[3,2,8,9],[11,0,3,10]]}"#;
-
 fn answer(alloc: Global, job: &str) -> Option<Result<Task, JobError>> {
-    let Ok(raw) = read_dieline(alloc, TRAY.as_bytes()) else {
+    let files = files_of(alloc, LOCKED_TRAY.as_bytes(), job.as_bytes())?;
+    let Ok(carton) = tree(alloc, &files.dieline, 4, PanelId(0)) else {
         return None;
     };
-    let Ok(job) = read_job(alloc, job.as_bytes()) else {
-        return None;
-    };
-    let Ok(carton) = tree(alloc, &raw, 4, PanelId(0)) else {
-        return None;
-    };
-    Some(job_for(alloc, &carton, &raw, &job))
+    Some(job_for(alloc, &carton, &files.dieline, &files.job))
 }
 
 #[test]

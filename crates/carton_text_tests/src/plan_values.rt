@@ -1,15 +1,11 @@
+ghost use Rattle.carton_base.specs.Grid.{IsGrid};
+
 use carton_base::{EdgeId, Listed, State};
+use carton_cases::plans::{BARE, CROSS, UP};
 use carton_text::{Plan, read_plan, write_plan};
 use std::alloc::{AllocError, Global};
 
-const UP: &str =
-    "carton plan 1\ncreases 6\nstate 0\nstate 1\nstate 2\nstate 3\nstate 4\nstate 5\nstate 6\nstate 7\nstate 8\nend\n";
-
-const CROSS: &str = "carton plan 1\ncreases 0 1 2 3\nstate 0 15 0 16\nstate 0 16 0 15\nend\n";
-
 const FINE: &str = "carton plan 2\ncreases 0 2047\nstate -32 32\nstate 17 -9\nend\n";
-
-const BARE: &str = "carton plan 1\ncreases\nstate\nend\n";
 
 fn creases(alloc: Global, edges: &[u16]) -> Result<Listed<EdgeId>, AllocError> {
     let mut found = Listed::new(alloc);
@@ -19,18 +15,14 @@ fn creases(alloc: Global, edges: &[u16]) -> Result<Listed<EdgeId>, AllocError> {
     Ok(found)
 }
 
-fn eight(first: i8, second: i8) -> State {
+// The state of two joints at these stops.
+fn state(grid: u8, first: i8, second: i8) -> State
+    requires { IsGrid grid }
+{
     let mut stops = [0; 24];
     stops[0] = first;
     stops[1] = second;
-    State { stops, grid: 8 }
-}
-
-fn sixteen(first: i8, second: i8) -> State {
-    let mut stops = [0; 24];
-    stops[0] = first;
-    stops[1] = second;
-    State { stops, grid: 16 }
+    State { stops, grid }
 }
 
 #[test]
@@ -38,7 +30,7 @@ fn one_joint_goes_up(rt: HostRuntime) -> Result<(), AllocError> {
     let alloc = rt.alloc();
     let mut states = Listed::new(alloc);
     for stop in 0..9_i8 {
-        states.push(eight(stop, 0))?;
+        states.push(state(8, stop, 0))?;
     }
     let wanted = Plan {
         creases: creases(alloc, &[6])?,
@@ -52,8 +44,8 @@ fn one_joint_goes_up(rt: HostRuntime) -> Result<(), AllocError> {
 fn a_plan_of_the_finer_grid(rt: HostRuntime) -> Result<(), AllocError> {
     let alloc = rt.alloc();
     let mut states = Listed::new(alloc);
-    states.push(sixteen(-32, 32))?;
-    states.push(sixteen(17, -9))?;
+    states.push(state(16, -32, 32))?;
+    states.push(state(16, 17, -9))?;
     let wanted = Plan {
         creases: creases(alloc, &[0, 2047])?,
         states,
@@ -66,7 +58,7 @@ fn a_plan_of_the_finer_grid(rt: HostRuntime) -> Result<(), AllocError> {
 fn a_plan_without_creases(rt: HostRuntime) -> Result<(), AllocError> {
     let alloc = rt.alloc();
     let mut states = Listed::new(alloc);
-    states.push(eight(0, 0))?;
+    states.push(state(8, 0, 0))?;
     let wanted = Plan {
         creases: Listed::new(alloc),
         states,

@@ -2,20 +2,13 @@ ghost use Rattle.std.specs.Prelude.{◌≤◌, length};
 ghost use Rattle.carton_base.specs.declared.limits.TheConstants.{MOST_JOINTS};
 
 use carton_base::{EdgeId, Listed, State};
-use carton_fold::read_dieline;
+use carton_cases::dielines::{BARE_TRAY, FOLDED_TRAY};
+use carton_cases::files_of;
 use carton_text::JobError::{
     AngleNotExact, EmptyTeam, LockedEdge, NoAngles, NotAJoint, TooManyTeams,
 };
-use carton_text::{JobError, Task, Team, fitted, read_job};
+use carton_text::{JobError, Task, Team, fitted};
 use std::alloc::{AllocError, Global};
-
-// A base with four flaps, whose creases are the first four of its edges.
-const TRAY: &str =
-    r#"{"vertices_coords":[[0,0],[100,0],[100,100],[0,100],[0,-60],[100,-60],[160,0],[160,100],[100,160],[0,160],[-60,100],[-60,0]],"edges_vertices":[[0,1],[1,2],[2,3],[3,0],[0,4],[4,5],[5,1],[1,6],[6,7],[7,2],[2,8],[8,9],[9,3],[3,10],[10,11],[11,0]],"faces_vertices":[[0,1,2,3],[4,5,1,0],[1,6,7,2],[3,2,8,9],[11,0,3,10]]}"#;
-
-// The same with angles, of which the third is none at which a stop stands.
-const FOLDED: &str =
-    r#"{"vertices_coords":[[0,0],[100,0],[100,100],[0,100],[0,-60],[100,-60],[160,0],[160,100],[100,160],[0,160],[-60,100],[-60,0]],"edges_vertices":[[0,1],[1,2],[2,3],[3,0],[0,4],[4,5],[5,1],[1,6],[6,7],[7,2],[2,8],[8,9],[9,3],[3,10],[10,11],[11,0]],"edges_foldAngle":[90,-180,45,0,0,0,0,0,0,0,0,0,0,0,0,0],"faces_vertices":[[0,1,2,3],[4,5,1,0],[1,6,7,2],[3,2,8,9],[11,0,3,10]]}"#;
 
 const FOUR: [EdgeId; 4] = [EdgeId(0), EdgeId(1), EdgeId(2), EdgeId(3)];
 
@@ -48,57 +41,39 @@ fn answer(
 ) -> Option<Result<Task, JobError>>
     requires { length creases.now ≤ MOST_JOINTS }
 {
-    let Ok(raw) = read_dieline(alloc, dieline.as_bytes()) else {
-        return None;
-    };
-    let Ok(job) = read_job(alloc, job.as_bytes()) else {
-        return None;
-    };
-    Some(fitted(alloc, creases, locked, &raw, &job))
+    let files = files_of(alloc, dieline.as_bytes(), job.as_bytes())?;
+    Some(fitted(alloc, creases, locked, &files.dieline, &files.job))
 }
 
-const REFUSED: [(&str, &str, JobError); 12] = [
-    (TRAY, "carton job 1\nstart 4 0\nend\n", NotAJoint(EdgeId(4))),
+// Jobs that don't fit the tray without letters.
+const REFUSED: [(&str, JobError); 12] = [
+    ("carton job 1\nstart 4 0\nend\n", NotAJoint(EdgeId(4))),
+    ("carton job 1\ntarget 4 1\nend\n", NotAJoint(EdgeId(4))),
+    ("carton job 1\nteam 4\nend\n", NotAJoint(EdgeId(4))),
+    ("carton job 1\nstart 2047 0\nend\n", NotAJoint(EdgeId(2047))),
     (
-        TRAY,
-        "carton job 1\ntarget 4 1\nend\n",
-        NotAJoint(EdgeId(4)),
-    ),
-    (TRAY, "carton job 1\nteam 4\nend\n", NotAJoint(EdgeId(4))),
-    (
-        TRAY,
-        "carton job 1\nstart 2047 0\nend\n",
-        NotAJoint(EdgeId(2047)),
-    ),
-    (
-        TRAY,
         "carton job 1\nteam 5\ntarget 6 1\nstart 0 1\nstart 7 1\nstart 2 1\nend\n",
         NotAJoint(EdgeId(7)),
     ),
     (
-        TRAY,
         "carton job 1\nteam 5\ntarget 2 1\nend\n",
         LockedEdge(EdgeId(2)),
     ),
     (
-        TRAY,
         "carton job 1\ntargets fold\nteam 2\nend\n",
         LockedEdge(EdgeId(2)),
     ),
-    (TRAY, "carton job 1\ntargets fold\nteam 0\nend\n", NoAngles),
+    ("carton job 1\ntargets fold\nteam 0\nend\n", NoAngles),
     (
-        TRAY,
         "carton job 1\ntarget 0 1\ntarget 1 1\ntarget 3 1\ntargets fold\nend\n",
         NoAngles,
     ),
-    (TRAY, "carton job 1\nteam 0\nend\n", EmptyTeam(2)),
+    ("carton job 1\nteam 0\nend\n", EmptyTeam(2)),
     (
-        TRAY,
         "carton job 1\ntarget 0 1\n#\nteam 0 1\nteam 3\nend\n",
         EmptyTeam(5),
     ),
     (
-        TRAY,
         "carton job 1\nstart 0 -3\ntarget 0 -3\nteam 0\nend\n",
         EmptyTeam(4),
     ),
@@ -106,8 +81,8 @@ const REFUSED: [(&str, &str, JobError); 12] = [
 
 #[test]
 fn jobs_that_do_not_fit(rt: HostRuntime) {
-    for (dieline, job, refusal) in &REFUSED {
-        let refused = answer(rt.alloc(), dieline, job, &THREE, &LOCKED);
+    for (job, refusal) in &REFUSED {
+        let refused = answer(rt.alloc(), BARE_TRAY, job, &THREE, &LOCKED);
         assert!(rt; refused == Some(Err(*refusal)), "at {job}");
     }
 }
@@ -116,15 +91,17 @@ fn jobs_that_do_not_fit(rt: HostRuntime) {
 fn angles_and_too_many_teams(rt: HostRuntime) {
     let alloc = rt.alloc();
     let fold = "carton job 1\ntargets fold\nend\n";
-    assert!(rt; answer(alloc, FOLDED, fold, &FOUR, &[]) == Some(Err(AngleNotExact(EdgeId(2)))));
+    assert!(rt;
+        answer(alloc, FOLDED_TRAY, fold, &FOUR, &[]) == Some(Err(AngleNotExact(EdgeId(2))))
+    );
     let told = "carton job 1\ntargets fold\ntarget 2 5\nend\n";
-    assert!(rt; answer(alloc, FOLDED, told, &FOUR, &[]).is_some_and(|task| task.is_ok()));
+    assert!(rt; answer(alloc, FOLDED_TRAY, told, &FOUR, &[]).is_some_and(|task| task.is_ok()));
     let many =
         "carton job 1\ntarget 0 1\ntarget 1 1\ntarget 2 1\ntarget 3 1\ntarget 4 1\ntarget 5 1\ntarget 6 1\ntarget 7 1\ntarget 8 1\ntarget 9 1\ntarget 10 1\ntarget 11 1\ntarget 12 1\nend\n";
-    assert!(rt; answer(alloc, TRAY, many, &THIRTEEN, &[]) == Some(Err(TooManyTeams(13))));
+    assert!(rt; answer(alloc, BARE_TRAY, many, &THIRTEEN, &[]) == Some(Err(TooManyTeams(13))));
     let twelve =
         "carton job 1\ntarget 0 1\ntarget 1 1\ntarget 2 1\ntarget 3 1\ntarget 4 1\ntarget 5 1\ntarget 6 1\ntarget 7 1\ntarget 8 1\ntarget 9 1\ntarget 10 1\ntarget 11 1\nend\n";
-    assert!(rt; answer(alloc, TRAY, twelve, &THIRTEEN, &[]).is_some_and(|task| task.is_ok()));
+    assert!(rt; answer(alloc, BARE_TRAY, twelve, &THIRTEEN, &[]).is_some_and(|task| task.is_ok()));
 }
 
 fn team(alloc: Global, places: &[u8]) -> Result<Team, AllocError> {
@@ -170,6 +147,6 @@ fn a_task(rt: HostRuntime) -> Result<(), AllocError> {
         turns: 9,
         stride: 3,
     };
-    assert!(rt; answer(alloc, FOLDED, job, &FOUR, &[]) == Some(Ok(wanted)));
+    assert!(rt; answer(alloc, FOLDED_TRAY, job, &FOUR, &[]) == Some(Ok(wanted)));
     Ok(())
 }

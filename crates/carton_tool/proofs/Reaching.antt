@@ -3,10 +3,11 @@ use Rattle.std.proofs.Common.{◌≡◌, ℕ, suc, ◌<◌, ◌≤◌, inr, List
 use Rattle.std.specs.Prelude.{replicate, unwrap_or, IfSome, MatchOption}
 use Rattle.std.proofs.lemmas.Bool.{lt-ltb, le-ltb}
 use Rattle.std.proofs.lemmas.List.{length-replicate, append-nil, drop_all}
-use Rattle.carton_tool.specs.Files.{Named, most_bytes, AreTold, first_long, IsLengthOfLast, Reaches}
+use Rattle.carton_tool.specs.Files.{AreTold, first_long, IsLengthOfLast, Reaches}
 use Rattle.carton_tool.specs.Reading.{AreRead}
-use Rattle.carton_tool.specs.Asked.{named}
-use Rattle.carton_tool.specs.declared.files.Wanted.{Wanted}
+use Rattle.carton_words.specs.Asked.{named}
+use Rattle.carton_words.specs.Kinds.{Named, most_bytes}
+use Rattle.carton_words.specs.declared.givens.Wanted.{Wanted}
 
 -- so many files were read, of which none is too long, and these are left
 pub record IsFront (holds : List ℕ → Option (List ℕ)) (all rest : List Named) (files : List (List ℕ)) : Type 0 where

@@ -1,7 +1,8 @@
 -- What came of reading the files of a command.
 use Rattle.std.specs.Prelude.{◌≡◌, ⊤, ℕ, List, Option, Some, None}
-use Rattle.carton_tool.specs.Files.{Named, AreTold, IsAsHad, first_long}
-use Rattle.carton_tool.specs.declared.files.FileKind.{FileKind}
+use Rattle.carton_tool.specs.Files.{AreTold, IsAsHad, first_long}
+use Rattle.carton_words.specs.Kinds.{Named}
+use Rattle.carton_words.specs.declared.kinds.FileKind.{FileKind}
 use Rattle.carton_tool.specs.declared.files.Unread.{Unread}
 use Rattle.carton_tool.specs.declared.files.Unread.TheVariants.{TooLong, Failed, NoMemory}
 

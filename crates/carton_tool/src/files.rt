@@ -1,59 +1,14 @@
-ghost use Rattle.std.specs.Prelude.{◌≡◌, ℕ, ◌^◌, ◌<◌, ◌≤◌, List, length, map, IfOk, IfErr, IfSome, IsErrOf};
+ghost use Rattle.std.specs.Prelude.{◌≡◌, ℕ, ◌≤◌, List, map, IfOk, IfErr, IfSome, IsErrOf};
 ghost use Rattle.carton_io.specs.Told.{raised};
-ghost use Rattle.carton_tool.specs.Asked.{named};
-ghost use Rattle.carton_tool.specs.Files.{IsReached, kind_text, most_bytes, file_at};
+ghost use Rattle.carton_tool.specs.Files.{IsReached, file_at};
 ghost use Rattle.carton_tool.specs.Reading.{AreAllRead, IsUnread};
 ghost use Rattle.carton_tool.specs.declared.files.Unread.TheVariants.{NoMemory};
+ghost use Rattle.carton_words.specs.Asked.{named};
 
-use carton_base::{Listed, MOST_BYTES};
+use carton_base::Listed;
 use carton_io::{Shelf, ShelfError};
+use carton_words::{FileKind, Wanted};
 use std::alloc::{AllocFailed, Global};
-
-/// What a file holds, as a refusal names it.
-#[derive(Clone, Copy, Debug, PartialEq, Eq)]
-pub enum FileKind {
-    Dieline,
-    Job,
-    Plan,
-    Catalogue,
-    Fixture,
-}
-
-impl FileKind {
-    /// The word that a refusal has for it.
-    pub fn name(self) -> &'static str
-        ensures { result.now ≡ kind_text self }
-    {
-        match self {
-            FileKind::Dieline => "dieline",
-            FileKind::Job => "job",
-            FileKind::Plan => "plan",
-            FileKind::Catalogue => "catalogue",
-            FileKind::Fixture => "fixture",
-        }
-    }
-
-    /// The most bytes that such a file may have.
-    pub fn limit(self) -> usize
-        ensures value { result ≡ most_bytes self }
-        ensures bound { result ≤ 2 ^ 28 }
-    {
-        match self {
-            FileKind::Dieline
-            | FileKind::Job
-            | FileKind::Plan
-            | FileKind::Catalogue
-            | FileKind::Fixture => MOST_BYTES,
-        }
-    }
-}
-
-/// A file that a command reads.
-#[derive(Clone, Copy, Debug)]
-pub struct Wanted<'a> {
-    pub kind: FileKind,
-    pub name: &'a str,
-}
 
 /// Why the files of a command weren't all read: one is too long, the first such one; a read failed;
 /// or memory was wanted.
@@ -105,10 +60,12 @@ pub fn read_all<S: Shelf>(
     Ok(files)
 }
 
-/// The bytes of the file at a place.
+/// The bytes of the file at a place; none where there is no such file.
 pub fn bytes_at(files: &[Listed<u8>], place: usize) -> &[u8]
-    requires { place < length files.now }
     ensures { result.now ≡ file_at place files.now }
 {
-    files[place].as_slice()
+    match files.get(place) {
+        Some(file) => file.as_slice(),
+        None => &[],
+    }
 }

@@ -2,8 +2,9 @@ ghost use Rattle.std.specs.Prelude.{◌≡◌};
 ghost use Rattle.carton_tool.specs.declared.halt.Halt.TheVariants.{NoMemory};
 
 use carton_base::OutOfMemory;
+use std::alloc::AllocError;
 
-/// Why there is no answer: a read failed, or memory was wanted.
+/// Why nothing is said: a read failed, or memory was wanted.
 #[derive(Clone, Copy, Debug, PartialEq, Eq)]
 pub enum Halt {
     ReadFault,
@@ -14,6 +15,14 @@ impl From<OutOfMemory> for Halt {
     ghost from_gives = { λ _ halt. halt ≡ NoMemory };
 
     fn from(_e: OutOfMemory) -> Halt {
+        Halt::NoMemory
+    }
+}
+
+impl From<AllocError> for Halt {
+    ghost from_gives = { λ _ halt. halt ≡ NoMemory };
+
+    fn from(_e: AllocError) -> Halt {
         Halt::NoMemory
     }
 }

@@ -1,6 +1,6 @@
 ghost use Rattle.std.specs.Prelude.{◌≡◌, ◌≢◌, ◌⊎◌, ℕ, ◌<◌, ◌++◌, length, take};
-ghost use Rattle.carton_tool.specs.Words.{texts};
-ghost use Rattle.carton_tool.specs.Answers.{IsAnswered};
+ghost use Rattle.carton_words.specs.Words.{texts};
+ghost use Rattle.carton_tool.specs.Saying.{IsAnswered};
 
 use crate::status::Status;
 use crate::tool::run;

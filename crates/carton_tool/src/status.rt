@@ -1,3 +1,9 @@
+ghost use Rattle.std.specs.Prelude.{◌≡◌};
+ghost use Rattle.carton_tool.specs.Saying.{status_of};
+
+use crate::said::Ended;
+use carton_setup::Ending;
+
 /// How a run ended. Its number is the exit status of the program.
 #[derive(Clone, Copy, Debug, PartialEq, Eq)]
 pub enum Status {
@@ -9,4 +15,17 @@ pub enum Status {
     WriteFault = 5,
     OutOfTurns = 6,
     NoMemory = 7,
+}
+
+/// The status that goes with how something was said.
+pub fn status_for(ended: Ended) -> Status
+    ensures { result ≡ status_of ended }
+{
+    match ended {
+        Ended::BadWords => Status::BadWords,
+        Ended::BadInput => Status::BadInput,
+        Ended::Told(Ending::Done) => Status::Done,
+        Ended::Told(Ending::Refused) => Status::Refused,
+        Ended::Told(Ending::OutOfTurns) => Status::OutOfTurns,
+    }
 }

@@ -1,7 +1,7 @@
 ghost use Rattle.std.specs.Prelude.{⊤, ◌≡◌, ◌≢◌, ℕ, List, [], Some, unwrap_or};
 ghost use Rattle.carton_io.specs.Files.{content_of};
-ghost use Rattle.carton_tool.specs.Words.{texts};
-ghost use Rattle.carton_tool.specs.Answers.{IsAnswered};
+ghost use Rattle.carton_words.specs.Words.{texts};
+ghost use Rattle.carton_tool.specs.Saying.{IsAnswered};
 
 use crate::status::Status;
 use crate::tool::run;

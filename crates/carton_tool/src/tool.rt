@@ -1,100 +1,39 @@
 ghost use Rattle.std.specs.Prelude.{◌≡◌, ◌≢◌, ◌⊎◌, ℕ, ◌≤◌, List, length, IfOk, IfSome, IsErrOf};
 ghost use Rattle.std.specs.Io.KnownBytes.{Appends};
 ghost use Rattle.carton_io.specs.Told.{raised, Rose, GrewInPart};
-ghost use Rattle.carton_tool.specs.Words.{texts, Command, flat, files_of, IsCommand, IsNoCommand, AreBounded};
-ghost use Rattle.carton_tool.specs.Asked.{asked};
-ghost use Rattle.carton_tool.specs.Refusals.{IsOutcome};
-ghost use Rattle.carton_tool.specs.Answers.{text_of, status_of, answer_of as answer_of_outcome, IsAnswerTo, IsAnswer, AreFiles, IsAnswered, IsDetermined, IsNamed, IsOfSound};
-ghost use Rattle.carton_tool.specs.Make.{TellsMade};
-ghost use Rattle.carton_tool.specs.Headline.{IsSafe, HasFewestMoves, TellsPlanWith, IsFoundInReach};
+ghost use Rattle.carton_words.specs.Asked.{asked};
+ghost use Rattle.carton_words.specs.Commands.{Command, IsCommand, IsNoCommand};
+ghost use Rattle.carton_words.specs.Words.{texts};
+ghost use Rattle.carton_tool.specs.Headline.{IsSafe, HasFewestMoves, TellsPlanWith, IsFoundInReach, IsOfSound, TellsMade};
+ghost use Rattle.carton_tool.specs.Saying.{status_of, IsSaidOf, IsSaid, AreFiles, IsAnswered, IsDetermined, IsNamed};
 
-use crate::answer::{Answer, status, text};
-use crate::check::check_answer;
-use crate::clearance::clearance_answer;
-use crate::files::{Unread, bytes_at, read_all};
-use crate::fixture::fixture_answer;
-use crate::flat::flat_answer;
+use crate::files::{Unread, read_all};
 use crate::halt::Halt;
-use crate::make::make_answer;
-use crate::plan::plan_answer;
-use crate::pose::pose_answer;
-use crate::refusal::{BadFile, Refusal, Rule};
-use crate::status::Status;
-use crate::verify::verify_answer;
-use crate::words::{Asked, command_of, wanted_by};
+use crate::said::Said;
+use crate::status::{Status, status_for};
+use crate::verbs::tell;
 use carton_base::{Listed, OutOfMemory};
 use carton_io::{Shelf, Sink, SinkFault};
+use carton_setup::{BadFile, Refusal, Rule};
+use carton_words::{Asked, command_of, wanted_by};
 use std::alloc::Global;
 
-// What a command gives for the bytes of its files.
-fn outcome_of(alloc: Global, command: Asked<'_>, files: &[Listed<u8>]) -> Result<Answer, Refusal>
-    requires bounded { AreBounded (asked command) }
-    requires whole { length files.now ≡ length (files_of (asked command)) }
-    ensures { IsOutcome (λ outcome. IsAnswerTo (asked command.entry) files.now (answer_of_outcome (λ answer. answer) outcome)) result }
+// What is said to a command for the bytes of its files.
+fn said_of(alloc: Global, command: &Asked<'_>, files: &[Listed<u8>]) -> Result<Said, OutOfMemory>
+    requires { (words : List (List ℕ)) × IsCommand words (asked command.now) }
+    ensures { IfOk result (IsSaidOf (asked command.now) files.now) }
 {
-    match command {
-        Asked::Flat { margin, .. } => {
-            Ok(Answer::Flat(flat_answer(alloc, bytes_at(files, 0), margin)?))
-        }
-        Asked::Pose { end, .. } => Ok(Answer::Pose(pose_answer(
-            alloc,
-            bytes_at(files, 0),
-            bytes_at(files, 1),
-            end,
-        )?)),
-        Asked::Plan { .. } => Ok(Answer::Plan(plan_answer(
-            alloc,
-            bytes_at(files, 0),
-            bytes_at(files, 1),
-        )?)),
-        Asked::Check { .. } => Ok(Answer::Check(check_answer(
-            alloc,
-            bytes_at(files, 0),
-            bytes_at(files, 1),
-            bytes_at(files, 2),
-        )?)),
-        Asked::Clearance { .. } => Ok(Answer::Clearance(clearance_answer(
-            alloc,
-            bytes_at(files, 0),
-            bytes_at(files, 1),
-            bytes_at(files, 2),
-        )?)),
-        Asked::Make { count } => Ok(Answer::Make(make_answer(alloc, count)?)),
-        Asked::Fixture { .. } => Ok(Answer::Fixture(fixture_answer(
-            alloc,
-            bytes_at(files, 0),
-            bytes_at(files, 1),
-            bytes_at(files, 2),
-            bytes_at(files, 3),
-        )?)),
-        Asked::Verify { .. } => Ok(Answer::Verify(verify_answer(
-            alloc,
-            bytes_at(files, 0),
-            bytes_at(files, 1),
-            bytes_at(files, 2),
-            bytes_at(files, 3),
-            bytes_at(files, 4),
-        )?)),
-    }
-}
-
-// The answer of a command for the bytes of its files.
-fn answer_to(alloc: Global, command: Asked<'_>, files: &[Listed<u8>]) -> Result<Answer, OutOfMemory>
-    requires bounded { AreBounded (asked command) }
-    requires whole { length files.now ≡ length (files_of (asked command)) }
-    ensures { IfOk result (IsAnswerTo (asked command.entry) files.now) }
-{
-    match outcome_of(alloc, command, files) {
-        Ok(answer) => Ok(answer),
-        Err(Refusal::Bad(file)) => Ok(Answer::Bad(file)),
+    match tell(alloc, command, files) {
+        Ok(told) => Ok(Said::told(told)),
+        Err(Refusal::Bad(file)) => Ok(Said::refused(alloc, file)?),
         Err(Refusal::NoMemory) => Err(OutOfMemory),
     }
 }
 
-// The answer for any words.
-fn answer_of<S: Shelf>(alloc: Global, words: &[String], shelf: &mut S) -> Result<Answer, Halt>
-    ensures answered { IfOk result (λ answer. (files : List (List ℕ))
-        × AreFiles (S.holds shelf.old) (S.had shelf.new) (texts words.now) files × IsAnswer (texts words.now) files answer) }
+// What is said to any words.
+fn said_to<S: Shelf>(alloc: Global, words: &[String], shelf: &mut S) -> Result<Said, Halt>
+    ensures said { IfOk result (λ said. (files : List (List ℕ))
+        × AreFiles (S.holds shelf.old) (S.had shelf.new) (texts words.now) files × IsSaid (texts words.now) files said) }
     ensures fault { IsErrOf result Halt.ReadFault → Rose (S.faults shelf.old) (S.faults shelf.new) }
     ensures once { IsErrOf result Halt.ReadFault → S.faults shelf.new ≡ raised (S.faults shelf.old) }
     ensures command { IsErrOf result Halt.ReadFault → (c : Command) × IsCommand (texts words.now) c }
@@ -105,35 +44,34 @@ fn answer_of<S: Shelf>(alloc: Global, words: &[String], shelf: &mut S) -> Result
     ensures later { S.faults shelf.old ≤ S.faults shelf.new }
 {
     let Some(command) = command_of(alloc, words)? else {
-        return Ok(Answer::BadWords);
+        return Ok(Said::bad_words(alloc)?);
     };
-    let wanted = wanted_by(alloc, command)?;
+    let wanted = wanted_by(alloc, &command)?;
     match read_all(alloc, &wanted, shelf) {
-        Ok(files) => Ok(answer_to(alloc, command, &files)?),
-        Err(Unread::TooLong(kind)) => Ok(Answer::Bad(BadFile {
-            kind,
-            rule: Rule::TooLong,
-        })),
+        Ok(files) => Ok(said_of(alloc, &command, &files)?),
+        Err(Unread::TooLong(kind)) => Ok(Said::refused(
+            alloc,
+            BadFile {
+                kind,
+                rule: Rule::TooLong,
+            },
+        )?),
         Err(Unread::Failed) => Err(Halt::ReadFault),
         Err(Unread::NoMemory) => Err(Halt::NoMemory),
     }
 }
 
-// Puts the text of an answer, by one call.
-fn say<K: Sink>(alloc: Global, answer: &Answer, sink: &mut K) -> Status
-    ensures said { result ≢ Status.NoMemory → result ≢ Status.WriteFault
-        → (result ≡ status_of answer.now) × Appends (K.written sink.old) (K.written sink.new) (text_of answer.now) }
-    ensures part { result ≡ Status.WriteFault → GrewInPart (K.written sink.old) (K.written sink.new) (text_of answer.now) }
-    ensures silent { result ≡ Status.NoMemory → K.written sink.new ≡ K.written sink.old }
+// Puts what is said, by one call.
+fn say<K: Sink>(said: &Said, sink: &mut K) -> Status
+    ensures said { result ≢ Status.WriteFault
+        → (result ≡ status_of said.now.ended) × Appends (K.written sink.old) (K.written sink.new) said.now.text }
+    ensures part { result ≡ Status.WriteFault → GrewInPart (K.written sink.old) (K.written sink.new) said.now.text }
     ensures cause { result ≡ Status.WriteFault → Rose (K.faults sink.old) (K.faults sink.new) }
     ensures steady { result ≢ Status.WriteFault → K.faults sink.new ≡ K.faults sink.old }
     ensures later { K.faults sink.old ≤ K.faults sink.new }
 {
-    let Ok(text) = text(alloc, answer) else {
-        return Status::NoMemory;
-    };
-    match sink.put(&text) {
-        Ok(()) => status(answer),
+    match sink.put(said.text.as_slice()) {
+        Ok(()) => status_for(said.ended),
         Err(SinkFault) => Status::WriteFault,
     }
 }
@@ -190,8 +128,8 @@ pub fn run<S: Shelf, K: Sink>(
     ensures shelf_later { S.faults shelf.old ≤ S.faults shelf.new }
     ensures sink_later { K.faults sink.old ≤ K.faults sink.new }
 {
-    match answer_of(alloc, words, shelf) {
-        Ok(answer) => say(alloc, &answer, sink),
+    match said_to(alloc, words, shelf) {
+        Ok(said) => say(&said, sink),
         Err(Halt::ReadFault) => Status::ReadFault,
         Err(Halt::NoMemory) => Status::NoMemory,
     }

@@ -1,5 +1,5 @@
 -- From the steps to the answer.
-use Rattle.std.proofs.Common.{◌≡◌, ℕ, length, inl, Result, Ok, Err, sym, subst}
+use Rattle.std.proofs.Common.{◌≡◌, ℕ, inl, Result, Ok, Err, sym, subst}
 use Rattle.std.specs.Prelude.{IfOk, IfErr}
 use Rattle.carton_base.specs.declared.dieline.RawDieline.{RawDieline}
 use Rattle.carton_tree.specs.declared.error.TreeError.{TreeError}

@@ -1,23 +1,24 @@
 -- From how the panels hang to the carton: parents, paths, and the joints of the dieline that hang them.
-use Rattle.std.proofs.Common.{◌≡◌, ◌≢◌, ℕ, zero, suc, ◌+◌, ◌<◌, ◌≤◌, ◌⊎◌, inl, inr, List, [], ◌∷◌, length, get_or, Option, Some, None, refl, sym, ◌∙◌, ap, subst, arith}
+use Rattle.std.proofs.Common.{◌≡◌, ◌≢◌, ℕ, zero, suc, ◌<◌, ◌≤◌, inl, inr, List, length, Option, Some, None, refl, sym, ◌∙◌, ap, subst, arith}
 use Rattle.std.specs.Prelude.{IfSome, IsSome, IsSomeAnd}
 use Rattle.std.specs.List.{last_or}
 use Rattle.std.proofs.lemmas.Bool.{cases_lt, false≢true}
 use Rattle.carton_base.specs.declared.dieline.RawDieline.{RawDieline}
 use Rattle.carton_base.specs.declared.ids.EdgeId.{EdgeId}
 use Rattle.carton_base.specs.declared.ids.PanelId.{PanelId}
-use Rattle.carton_base.specs.declared.limits.TheConstants.{MOST_PANELS, MOST_JOINTS, LONGEST_PATH}
+use Rattle.carton_base.specs.declared.limits.TheConstants.{MOST_JOINTS, LONGEST_PATH}
 use Rattle.carton_model.specs.Dielines.{IsDieline}
 use Rattle.carton_panels.specs.Shapes.{Shape}
 use Rattle.carton_panels.specs.DielinePanels.{AreShapes}
+use Rattle.carton_tree.proofs.Ascents.{last_of_path}
 use Rattle.carton_tree.specs.declared.hinges.Hinge.{Hinge}
 use Rattle.carton_tree.specs.declared.joint.Joint.{Joint}
 use Rattle.carton_tree.specs.declared.spots.Spot.{Spot}
-use Rattle.carton_tree.specs.Joints.{IsJointOf, IsJoint, IsTurnOf, AreCreases}
-use Rattle.carton_tree.specs.Trees.{Tree, joint_of, Hangs, path, path_by}
+use Rattle.carton_tree.specs.Joints.{IsJointOf, IsJoint, AreCreases}
+use Rattle.carton_tree.specs.Trees.{joint_of, path, path_by}
 use Rattle.carton_tree.specs.Cartons.{IsJointIn, IsCarton}
 use Rattle.carton_tree.specs.Answers.{IsHungBy, IsTreeOf}
-use Rattle.carton_tree.specs.Steps.{AreCreasesBelow, HingeJoins, AreOpen, IsWay, IsSpot, AreSpots, spot_at, IsJointBy, IsJointAnswer, AreJoints}
+use Rattle.carton_tree.specs.Steps.{AreCreasesBelow, AreOpen, IsWay, IsSpot, AreSpots, spot_at, IsJointBy, IsJointAnswer, AreJoints}
 use Rattle.carton_tree.proofs.Tying.{AreAll, blank, edge_of, from_hinge, to_hinge, within, IsHanger, hanger}
 
 -- what is known once all panels hang
@@ -64,11 +65,6 @@ flat_root hs root p n e w = subst (λ k. IsWay hs root k p) e w
 -- the root hangs by none
 root_flat : (hs : List Hinge) (root : ℕ) (spots : List (Option Spot)) (s : Spot) → IsSpot hs spots root root s → s.depth ≡ 0
 root_flat hs root spots s is = elim (cases_lt 0 s.depth) [ inl lt ↦ absurd (is.least 0 lt refl) | inr ge ↦ omega (arith, ge) ]
-
-last_of_path : (o : Option PanelId) (n : ℕ) (js : List (Option Joint)) (p : ℕ) → last_or o (path_by n js p) ≡ last_or None (path_by n js p)
-unfolding path_by
-last_of_path o zero js p = refl
-last_of_path o (suc n) js p = refl
 
 -- the path of a panel ends at the root
 ends_by : (d : RawDieline) (cs : List EdgeId) (hs : List Hinge) (spots : List (Option Spot)) (js : List (Option Joint)) (root : ℕ) → IsHung d cs hs spots js root → (n p : ℕ) → p < length d.faces → (by : HangsBy d cs hs spots js root p) → by.s.depth ≤ n → last_or None (path_by n js p) ≡ Some (record { 0 = root })

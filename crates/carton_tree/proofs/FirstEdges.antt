@@ -1,16 +1,15 @@
 -- Sides of panels among the edges: the first edge between two vertices, and the lists of edges that sides are.
-use Rattle.std.proofs.Common.{◌≡◌, ℕ, suc, ◌+◌, ◌<◌, ◌≤◌, ◌⊎◌, inl, inr, ◌↔◌, List, [], ◌∷◌, ◌++◌, length, get_or, Some, refl, sym, ◌∙◌, ap, subst, arith}
-use Rattle.std.specs.Prelude.{Any, Contains, slice_get}
+use Rattle.std.proofs.Common.{◌≡◌, ℕ, ◌<◌, ◌≤◌, inl, inr, List, [], ◌∷◌, ◌++◌, length, get_or, sym, ◌∙◌, ap, subst, arith}
+use Rattle.std.specs.Prelude.{Any, Contains}
 use Rattle.std.proofs.lemmas.Bool.{cases_lt, cases_order}
 use Rattle.std.proofs.lemmas.List.{get_or_append_left, get_or_push, get_or_default, length_push}
 use Rattle.std.proofs.lemmas.Option.{slice_get-get_or, get_or_from_slice_get}
 use Rattle.carton_base.specs.declared.dieline.RawDieline.{RawDieline}
 use Rattle.carton_base.specs.declared.dieline.Ends.{Ends}
 use Rattle.carton_base.specs.declared.ids.EdgeId.{EdgeId}
-use Rattle.carton_base.specs.declared.ids.PanelId.{PanelId}
 use Rattle.carton_base.proofs.Loops.{NoneBelow}
 use Rattle.carton_panels.specs.Around.{Step, around}
-use Rattle.carton_panels.specs.Creases.{HasEnds, IsFirstEdge, IsSideOf}
+use Rattle.carton_panels.specs.Creases.{HasEnds, IsFirstEdge}
 use Rattle.carton_tree.specs.Joints.{vertices_of, IsSide}
 use Rattle.carton_tree.specs.Rules.{IsBare, IsSooner}
 use Rattle.carton_tree.specs.Steps.{AreFirstSides, AreSides, AreAllSides}

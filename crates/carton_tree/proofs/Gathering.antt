@@ -1,6 +1,6 @@
 -- The joints of a dieline, gathered edge by edge.
-use Rattle.std.proofs.Common.{◌≡◌, ℕ, suc, ◌+◌, ◌<◌, ◌≤◌, ◌⊎◌, inl, inr, List, [], ◌∷◌, ◌++◌, length, get_or, Option, Some, None, refl, sym, ◌∙◌, ap, subst, arith}
-use Rattle.std.specs.Prelude.{All, AllPairs, Any, Contains, slice_get}
+use Rattle.std.proofs.Common.{◌≡◌, ℕ, ◌+◌, ◌<◌, ◌≤◌, ◌⊎◌, inl, inr, List, [], ◌∷◌, ◌++◌, length, get_or, Option, Some, None, refl, sym, ◌∙◌, ap, subst, arith}
+use Rattle.std.specs.Prelude.{Contains, slice_get}
 use Rattle.std.proofs.lemmas.Bool.{cases_lt, cases_order}
 use Rattle.std.proofs.lemmas.List.{get_or_append_left, get_or_push, length_push, length-append}
 use Rattle.std.proofs.lemmas.List.Elements.{Contains-append_left, Contains-push, All-push}
@@ -9,7 +9,7 @@ use Rattle.carton_base.specs.declared.dieline.RawDieline.{RawDieline}
 use Rattle.carton_base.specs.declared.dieline.Letter.{Letter}
 use Rattle.carton_base.specs.declared.ids.EdgeId.{EdgeId}
 use Rattle.carton_base.specs.declared.ids.PanelId.{PanelId}
-use Rattle.carton_panels.specs.Creases.{Joins, IsCommonCrease}
+use Rattle.carton_panels.specs.Creases.{Joins}
 use Rattle.carton_tree.specs.declared.hinges.Hinge.{Hinge}
 use Rattle.carton_tree.specs.declared.besides.Beside.{Beside}
 use Rattle.carton_tree.specs.declared.besides.Beside.TheVariants.{Nobody, One, Two, More}

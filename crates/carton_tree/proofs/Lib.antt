@@ -14,3 +14,11 @@ pub mod Meeting
 pub mod Keeping
 pub mod Deciding
 pub mod Answering
+pub mod Ordered
+pub mod FreeJoints
+pub mod Ascents
+pub mod OneJoint
+pub mod OneCarton
+pub mod RefusedFaces
+pub mod OneRefusal
+pub mod Flaps

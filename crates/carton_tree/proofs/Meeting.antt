@@ -1,16 +1,16 @@
 -- Panels that two paths share, and the turns below them.
-use Rattle.std.proofs.Common.{◌≡◌, ◌≢◌, ℕ, zero, suc, ◌+◌, ◌<◌, ◌≤◌, ◌⊎◌, inl, inr, Bool, true, false, cond, nat_eq, List, [], ◌∷◌, length, get_or, take, map, Option, Some, None, refl, sym, ◌∙◌, ap, subst, arith}
-use Rattle.std.specs.Prelude.{Contains, All, Any, IfSome, IsSomeAnd}
-use Rattle.std.specs.List.{last_or, list_any}
+use Rattle.std.proofs.Common.{◌≡◌, ℕ, zero, suc, ◌<◌, ◌≤◌, inl, inr, true, false, cond, nat_eq, List, [], ◌∷◌, length, get_or, Option, Some, None, refl, sym, ◌∙◌, ap, subst, arith}
+use Rattle.std.specs.Prelude.{Contains, All, IfSome, IsSomeAnd}
+use Rattle.std.specs.List.{last_or}
 use Rattle.std.proofs.lemmas.Bool.{cases_lt, cases_eq, cases_Bool, eqb-true, eq-eqb, both_ways}
-use Rattle.std.proofs.lemmas.List.{get_or_default, get_or_past, length-take-le}
+use Rattle.std.proofs.lemmas.List.{get_or_default, get_or_past}
 use Rattle.std.proofs.lemmas.List.Elements.{All-nil, All-cons}
 use Rattle.std.proofs.lemmas.List.Folds.{Any-from_list_any, list_any_at}
 use Rattle.std.proofs.lemmas.Option.{same_Some, none-some}
 use Rattle.carton_base.specs.declared.ids.PanelId.{PanelId}
 use Rattle.carton_base.specs.declared.limits.TheConstants.{LONGEST_PATH}
-use Rattle.carton_base.specs.declared.motion.Turn.{Turn}
 use Rattle.carton_model.specs.Turning.{IsTurn}
+use Rattle.carton_tree.proofs.Ordered.{later_member}
 use Rattle.carton_tree.specs.declared.joint.Joint.{Joint}
 use Rattle.carton_tree.specs.Trees.{Tree, joint_of, beyond, path, path_by, turns_by, steps_to, is_among, first_shared, AreParents}
 use Rattle.carton_tree.specs.Cartons.{IsCarton, IsJointIn}
@@ -36,7 +36,7 @@ shared_in (p ∷ ps) qs x e = elim (cases_Bool (is_among p qs)) [
       subst (λ y. Contains (p ∷ ps) y × Contains qs y) same ((0, omega arith, refl), among p qs t)
   | inr f ↦
       let rest = shared_in ps qs x (sym (ap (λ b. cond b (Some p) (first_shared ps qs)) f) ∙ e) in
-      (later p ps x rest.0, rest.1)
+      (later_member p ps x rest.0, rest.1)
 ]
 
 -- two lists that share a panel are told to
@@ -52,7 +52,7 @@ not_unshared (p ∷ ps) qs x (suc k) e lt is h = elim (cases_Bool (is_among p qs
 
 last_after : (y : PanelId) (xs : List PanelId) (x : PanelId) → last_or (Some y) xs ≡ Some x → Contains (y ∷ xs) x
 last_after y [] x e = (0, omega arith, same_Some y x e)
-last_after y (z ∷ zs) x e = later y (z ∷ zs) x (last_after z zs x e)
+last_after y (z ∷ zs) x e = later_member y (z ∷ zs) x (last_after z zs x e)
 
 -- the last panel of a list is in it
 pub last_in : (xs : List PanelId) (x : PanelId) → last_or None xs ≡ Some x → Contains xs x

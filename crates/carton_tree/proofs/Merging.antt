@@ -1,11 +1,11 @@
 -- Groups of panels, and a joint that makes one of two.
-use Rattle.std.proofs.Common.{◌≡◌, ℕ, zero, suc, ◌+◌, ◌<◌, ◌≤◌, ◌⊎◌, inl, inr, ◌↔◌, List, length, get_or, cond, nat_eq, refl, sym, ◌∙◌, ap, subst, arith}
+use Rattle.std.proofs.Common.{◌≡◌, ℕ, zero, suc, ◌+◌, ◌<◌, ◌⊎◌, inl, inr, List, length, get_or, cond, nat_eq, refl, sym, ◌∙◌, ap, subst, arith}
 use Rattle.std.proofs.lemmas.Bool.{cases_eq, eq-eqb, ne_eqb}
 use Rattle.std.proofs.lemmas.List.{get_or_default}
 use Rattle.carton_tree.specs.declared.hinges.Hinge.{Hinge}
 use Rattle.carton_tree.specs.Chains.{AreJoined}
 use Rattle.carton_tree.specs.Steps.{HingeJoins, AreGroups, ClosesLoop}
-use Rattle.carton_tree.proofs.Chains.{JoinsOnly, IsSplit, Through, split, joined_through, joined_more, joined_back, joined_then}
+use Rattle.carton_tree.proofs.Chains.{JoinsOnly, IsSplit, split, joined_through, joined_more, joined_back}
 
 -- a joint joins both ways
 pub hinge_back : (hs : List Hinge) (k f g : ℕ) → HingeJoins hs k f g → HingeJoins hs k g f

@@ -1,5 +1,5 @@
 -- What a joint's turn takes from its edge: near coordinates, and places that fit a state.
-use Rattle.std.proofs.Common.{◌≡◌, ℕ, ◌<◌, ◌≤◌, List, length, get_or, Bool, true, false, Option, Some, None, pos, unsigned_abs, arith}
+use Rattle.std.proofs.Common.{ℕ, ◌<◌, ◌≤◌, List, length, get_or, Bool, true, false, Option, Some, None, unsigned_abs, arith}
 use Rattle.std.specs.Prelude.{IfSome}
 use Rattle.carton_base.specs.declared.dieline.RawDieline.{RawDieline}
 use Rattle.carton_base.specs.declared.dieline.Point.{Point}

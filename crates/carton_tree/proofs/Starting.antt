@@ -1,5 +1,5 @@
 -- A fraction rounded down is not above it rounded up.
-use Rattle.std.proofs.Common.{◌≡◌, ◌<◌, ℤ, pos, ◌*ℤ◌, ◌≤ℤ◌, ◌<ℤ◌, unsigned_abs, sym, subst, arith}
+use Rattle.std.proofs.Common.{◌≡◌, ℤ, pos, ◌*ℤ◌, ◌≤ℤ◌, ◌<ℤ◌, unsigned_abs, sym, subst, arith}
 use Rattle.std.proofs.lemmas.Int.{ints}
 use Rattle.carton_base.specs.Rounding.{IsFloor, IsCeil}
 use Rattle.carton_base.proofs.Products.{le_cancel}

@@ -1,22 +1,20 @@
 -- The gathered joints are those of the dieline: their loops, their chains, and which panels hang by them.
-use Rattle.std.proofs.Common.{◌≡◌, ℕ, zero, suc, ◌+◌, ◌<◌, ◌≤◌, ◌⊎◌, inl, inr, ◌↔◌, List, [], ◌∷◌, length, get_or, map, false, eqb, ◌||◌, Option, Some, None, pos, refl, sym, ◌∙◌, ap, subst, arith}
-use Rattle.std.specs.Prelude.{IfSome, IsSome, IsSomeAnd, Any, All}
-use Rattle.std.specs.List.{list_any, HoldsAt}
+use Rattle.std.proofs.Common.{◌≡◌, ℕ, zero, suc, ◌<◌, ◌≤◌, ◌⊎◌, inl, inr, ◌↔◌, List, length, get_or, map, false, eqb, Option, Some, None, pos, refl, sym, ◌∙◌, ap, subst, arith}
+use Rattle.std.specs.Prelude.{IfSome, IsSome, IsSomeAnd}
 use Rattle.std.proofs.lemmas.Bool.{cases_lt, cases_eq, cases_order, eq-eqb, false≢true}
 use Rattle.std.proofs.lemmas.List.{get_or_default, get_or-map, length-map}
 use Rattle.std.proofs.lemmas.List.Folds.{list_any_at}
 use Rattle.std.proofs.lemmas.Map.Steps.{le-length_from_below}
 use Rattle.carton_base.specs.declared.dieline.RawDieline.{RawDieline}
 use Rattle.carton_base.specs.declared.ids.EdgeId.{EdgeId}
-use Rattle.carton_base.specs.declared.ids.PanelId.{PanelId}
 use Rattle.carton_base.specs.declared.limits.TheConstants.{MOST_PANELS, LONGEST_PATH}
 use Rattle.carton_tree.specs.declared.hinges.Hinge.{Hinge}
 use Rattle.carton_tree.specs.declared.spots.Spot.{Spot}
-use Rattle.carton_tree.specs.Joints.{IsJointOf, IsJoint}
-use Rattle.carton_tree.specs.Chains.{IsChain, AreJoined, LeadsTo, LeadsNear}
+use Rattle.carton_tree.specs.Joints.{IsJointOf}
+use Rattle.carton_tree.specs.Chains.{AreJoined, LeadsTo, LeadsNear}
 use Rattle.carton_tree.specs.Rules.{IsLeast, Never, IsLoop}
-use Rattle.carton_tree.specs.Steps.{IsHinge, AreHinges, HingeJoins, ClosesLoop, AreOpen, IsFirstLoop, AreWithin, IsWay, IsSpot, AreSpots, spot_at}
-use Rattle.carton_tree.proofs.Chains.{But, HaveEnds, AreLoopless, joined_map, chain_map, joined_self, joined_by, joined_then, joined_back, no_way_round}
+use Rattle.carton_tree.specs.Steps.{AreHinges, HingeJoins, ClosesLoop, AreOpen, IsFirstLoop, AreWithin, IsWay, IsSpot, AreSpots, spot_at}
+use Rattle.carton_tree.proofs.Chains.{But, HaveEnds, joined_map, chain_map, joined_by, joined_then, joined_back, no_way_round}
 use Rattle.carton_tree.proofs.Gathering.{joint_back}
 use Rattle.carton_tree.proofs.Merging.{hinge_back, hinge_joins, hinge_only}
 

@@ -2,6 +2,7 @@
 use Rattle.std.specs.Prelude.{⊤, ◌⊎◌, ◌≡◌, ◌≢◌, ℕ, ◌<◌, ◌≤◌, length, IsSomeAnd, Result, Ok, Err}
 use Rattle.carton_base.specs.declared.dieline.RawDieline.{RawDieline}
 use Rattle.carton_base.specs.declared.ids.PanelId.{PanelId}
+use Rattle.carton_panels.specs.declared.error.PanelError.{PanelError}
 use Rattle.carton_panels.specs.declared.error.PanelError.TheVariants.{Memory as NoMemoryForPanel}
 use Rattle.carton_panels.specs.Answers.{IsPanelAnswer}
 use Rattle.carton_panels.specs.DielinePanels.{panel_places, ArePanels, AreShapes}
@@ -28,10 +29,15 @@ pub record IsTreeOf (m : ℕ) (d : RawDieline) (start : ℕ) (t : Tree) : Type 0
   pub hangs : (e : ℕ) → IsJoint d e → (p : ℕ) × (p < length d.faces) × Hangs t.joints e p
   pub carton : IsCarton t
 
+-- the first face that is no panel breaks this rule
+abbrev pub IsFirstRefused : ℕ → RawDieline → PanelError → Type 0
+IsFirstRefused m d e = (a : PanelId) × (a.0 < length d.faces) × ArePanels m d a.0
+    × IsPanelAnswer a m (panel_places d a.0) (Err e) × (e ≢ NoMemoryForPanel)
+
 -- why the faces are no panels
 abbrev pub IsPanelsAnswer : ℕ → RawDieline → TreeError → Type 0
 IsPanelsAnswer m d Memory = ⊤
-IsPanelsAnswer m d (Panel e) = (a : PanelId) × (a.0 < length d.faces) × ArePanels m d a.0 × IsPanelAnswer a m (panel_places d a.0) (Err e) × (e ≢ NoMemoryForPanel)
+IsPanelsAnswer m d (Panel e) = IsFirstRefused m d e
 IsPanelsAnswer m d e = ⊥
 
 -- why the edges make no joints: the first rule that fails, and those before it don't

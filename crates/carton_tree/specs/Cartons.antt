@@ -1,5 +1,5 @@
 -- What holds of every carton, and of the coordinates that it keeps.
-use Rattle.std.specs.Prelude.{◌≡◌, ◌≢◌, ℕ, ◌<◌, ◌≤◌, List, length, Option, None, IfSome, IsSome, IsSomeAnd, Some, slice_index_or, unsigned_abs}
+use Rattle.std.specs.Prelude.{◌≡◌, ◌≢◌, ℕ, ◌<◌, ◌≤◌, List, length, None, IsSomeAnd, Some, slice_index_or, unsigned_abs}
 use Rattle.std.specs.List.{AllZip, last_or}
 use Rattle.smallvec.specs.SmallVec.{SmallVec}
 use Rattle.carton_base.specs.Fractions.{IsRounded}

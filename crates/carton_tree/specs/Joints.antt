@@ -1,17 +1,15 @@
 -- The joints of a dieline: which edges join two panels, which of these are free, and how each turns its child.
-use Rattle.std.specs.Prelude.{⊤, ◌≡◌, ◌⊎◌, ◌↔◌, ℕ, ◌<◌, List, length, All, AllPairs, Any, Contains, IsTrue, Bool, if◌then◌else◌, Option, None, Some, slice_get, slice_index_or, ℤ, pos, neg_ℤ, ◌<ℤ◌}
+use Rattle.std.specs.Prelude.{◌≡◌, ◌↔◌, ℕ, ◌<◌, List, length, All, AllPairs, Any, Contains, IsTrue, Bool, if◌then◌else◌, Option, None, Some, slice_get, slice_index_or, ℤ, pos, neg_ℤ, ◌<ℤ◌}
 use Rattle.std.specs.List.{HoldsAt}
 use Rattle.carton_base.specs.declared.dieline.RawDieline.{RawDieline}
 use Rattle.carton_base.specs.declared.dieline.Point.{Point}
 use Rattle.carton_base.specs.declared.dieline.Ends.{Ends}
-use Rattle.carton_base.specs.declared.dieline.Letter.{Letter}
 use Rattle.carton_base.specs.declared.dieline.Letter.TheVariants.{Flat}
 use Rattle.carton_base.specs.declared.ids.EdgeId.{EdgeId}
 use Rattle.carton_base.specs.declared.motion.Turn.{Turn}
 use Rattle.carton_panels.specs.Panels.{face_at, origin}
-use Rattle.carton_panels.specs.Around.{Step, around}
+use Rattle.carton_panels.specs.Around.{around}
 use Rattle.carton_panels.specs.Creases.{IsFirstEdge, IsSideOf, IsCommonCrease}
-use Rattle.carton_panels.specs.DielinePanels.{panel_places}
 
 -- the vertices of panel f
 abbrev pub vertices_of : RawDieline → ℕ → List ℕ

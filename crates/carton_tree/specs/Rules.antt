@@ -2,7 +2,7 @@
 use Rattle.std.specs.Prelude.{◌≡◌, ◌⊎◌, ℕ, ◌<◌, length, Any}
 use Rattle.std.specs.List.{HoldsAt}
 use Rattle.carton_base.specs.declared.dieline.RawDieline.{RawDieline}
-use Rattle.carton_panels.specs.Around.{Step, around}
+use Rattle.carton_panels.specs.Around.{around}
 use Rattle.carton_panels.specs.Creases.{HasEnds}
 use Rattle.carton_panels.specs.DielinePanels.{ArePanels}
 use Rattle.carton_tree.specs.Joints.{vertices_of, IsSide, GoesAlong, IsJointOf, IsJoint, IsSlanted}

@@ -1,6 +1,6 @@
 -- What the steps from a dieline to its carton make on the way: the edges of each face, the panels beside each edge, the
 -- joints in order, the groups that they join, and how each panel hangs.
-use Rattle.std.specs.Prelude.{⊤, ◌≡◌, ◌≢◌, ◌⊎◌, ◌↔◌, ℕ, suc, ◌+◌, nat_eq, if◌then◌else◌, ◌<◌, ◌≤◌, List, length, All, AllPairs, Any, Contains, IsTrue, Option, None, Some, IfSome, IsSome, IsSomeAnd, slice_index_or}
+use Rattle.std.specs.Prelude.{⊤, ◌≡◌, ◌⊎◌, ◌↔◌, ℕ, suc, ◌+◌, nat_eq, if◌then◌else◌, ◌<◌, ◌≤◌, List, length, All, AllPairs, Any, Contains, IsTrue, Option, None, Some, IfSome, IsSome, IsSomeAnd, slice_index_or}
 use Rattle.std.specs.List.{HoldsAt}
 use Rattle.carton_base.specs.declared.dieline.RawDieline.{RawDieline}
 use Rattle.carton_base.specs.declared.dieline.Ends.{Ends}

@@ -1,5 +1,5 @@
 -- A carton as a tree of panels: parents, paths to the root, and the turns on the way.
-use Rattle.std.specs.Prelude.{◌≡◌, ◌⊎◌, ℕ, zero, suc, ◌<◌, ◌≤◌, List, [], ◌∷◌, ◌++◌, length, map, take, reverse, All, Any, Bool, nat_eq, if◌then◌else◌, Option, None, Some, IfSome, IsSomeAnd, slice_index_or}
+use Rattle.std.specs.Prelude.{◌≡◌, ◌⊎◌, ℕ, zero, suc, ◌<◌, List, [], ◌∷◌, ◌++◌, length, map, take, reverse, Bool, nat_eq, if◌then◌else◌, Option, None, Some, IfSome, IsSomeAnd, slice_index_or}
 use Rattle.std.specs.List.{list_any}
 use Rattle.carton_base.specs.declared.ids.EdgeId.{EdgeId}
 use Rattle.carton_base.specs.declared.ids.PanelId.{PanelId}

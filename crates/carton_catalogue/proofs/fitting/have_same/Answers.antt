@@ -1,5 +1,5 @@
 use Rattle.std.proofs.lemmas.Slice.Eq.{slice_eq-Decides}
-use Rattle.carton_catalogue.proofs.Compared.{crease_eq-Decides}
+use Rattle.carton_text.proofs.Compared.{crease_eq-Decides}
 use Rattle.carton_catalogue.proofs.fitting.have_same.Goals as goal
 
 pub returns : goal.returns

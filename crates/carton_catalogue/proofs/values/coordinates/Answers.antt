@@ -1,6 +1,6 @@
 use Rattle.std.proofs.Common.{◌≡◌, ◌∙◌, ℕ, length, All}
 use Rattle.carton_base.proofs.Steps.{count_entries, all_entries}
-use Rattle.carton_text.specs.Numbers.{at_most}
+use Rattle.carton_lines.specs.Numbers.{at_most}
 use Rattle.carton_catalogue.specs.declared.limits.TheConstants.{FARTHEST_CORNER}
 use Rattle.carton_catalogue.specs.CatalogueRules.{IsCoordinate}
 use Rattle.carton_catalogue.proofs.Kept.{if_given, sized}

@@ -3,7 +3,7 @@ use Rattle.std.specs.Int.{w32}
 use Rattle.std.proofs.lemmas.Int.{to_z-of_z}
 use Rattle.std.proofs.lemmas.Result.{err_from_is_err_and}
 use Rattle.carton_base.specs.Steps.{entries_from}
-use Rattle.carton_text.specs.Numbers.{at_most}
+use Rattle.carton_lines.specs.Numbers.{at_most}
 use Rattle.carton_base.proofs.Entries.{goes_on, ends, is_done, next_entry, no_entry}
 use Rattle.carton_catalogue.proofs.values.values.Goals as goal
 

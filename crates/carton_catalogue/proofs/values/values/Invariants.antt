@@ -1,6 +1,6 @@
 use Rattle.std.proofs.Common.{◌≡◌, drop, map}
 use Rattle.carton_base.specs.Steps.{entries_from}
-use Rattle.carton_text.specs.Numbers.{at_most}
+use Rattle.carton_lines.specs.Numbers.{at_most}
 use Rattle.carton_base.proofs.Entries.{with_front}
 use Rattle.carton_catalogue.proofs.values.values.Given as goal
 

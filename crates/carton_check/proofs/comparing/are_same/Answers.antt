@@ -1,5 +1,5 @@
 use Rattle.std.proofs.lemmas.Slice.Eq.{slice_eq-Decides}
-use Rattle.carton_check.proofs.Compared.{crease_eq-Decides}
+use Rattle.carton_text.proofs.Compared.{crease_eq-Decides}
 use Rattle.carton_check.proofs.comparing.are_same.Goals as goal
 
 pub returns : goal.returns

@@ -1,5 +1,5 @@
 use Rattle.std.proofs.lemmas.Bool.Decides.{Decides-at}
-use Rattle.carton_check.proofs.Compared.{state_eq-Decides}
+use Rattle.carton_text.proofs.Compared.{state_eq-Decides}
 use Rattle.carton_check.proofs.comparing.is_same.Goals as goal
 
 pub returns : goal.returns

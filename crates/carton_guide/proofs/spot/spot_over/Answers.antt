@@ -3,7 +3,8 @@ use Rattle.std.specs.Int.{w32, w64}
 use Rattle.std.proofs.lemmas.Int.{ints, to_z-of_z}
 use Rattle.carton_halfturn.proofs.Sizes.{grid_bounds}
 use Rattle.carton_guide.specs.Looks.{probe_at}
-use Rattle.carton_guide.proofs.Spots.{own_moment, changes_few, few_units}
+use Rattle.carton_reach.proofs.Reached.{own_moment}
+use Rattle.carton_guide.proofs.Spots.{changes_few, few_units}
 use Rattle.carton_guide.proofs.spot.spot_over.Goals as goal
 
 pub returns-clause-at : goal.returns-clause-at

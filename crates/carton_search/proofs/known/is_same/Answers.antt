@@ -1,5 +1,6 @@
 use Rattle.std.proofs.Common.{◌≡◌}
-use Rattle.carton_search.proofs.Keys.{state_eq, state_eq-Decides, match_decided}
+use Rattle.carton_text.proofs.Compared.{state_eq-Decides}
+use Rattle.carton_search.proofs.Keys.{state_eq, match_decided}
 use Rattle.carton_search.proofs.known.is_same.Goals as goal
 
 pub returns : goal.returns

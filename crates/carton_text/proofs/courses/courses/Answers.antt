@@ -3,7 +3,7 @@ use Rattle.std.proofs.lemmas.Result.{err_from_is_err_and}
 use Rattle.carton_base.specs.Steps.{entries_from}
 use Rattle.carton_base.proofs.Entries.{goes_on, ends, is_done}
 use Rattle.carton_text.specs.Tasks.{course_of}
-use Rattle.carton_text.proofs.Items.{first_left, none_left}
+use Rattle.carton_lines.proofs.Items.{first_left, none_left}
 use Rattle.carton_text.proofs.courses.courses.Goals as goal
 
 pub returns-in_err-course-clause-value : goal.returns-in_err-course-clause-value

@@ -1,7 +1,7 @@
 use Rattle.std.proofs.Common.{◌≡◌, ◌*◌, drop, map}
 use Rattle.carton_base.specs.Steps.{entries_from}
 use Rattle.carton_text.specs.Grids.{stops_of}
-use Rattle.carton_text.specs.Numbers.{at_most}
+use Rattle.carton_lines.specs.Numbers.{at_most}
 use Rattle.carton_base.proofs.Entries.{with_front}
 use Rattle.carton_text.proofs.plan_lines.stops.Given as goal
 

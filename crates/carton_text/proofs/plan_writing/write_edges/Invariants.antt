@@ -1,5 +1,5 @@
 use Rattle.std.proofs.Common.{◌≡◌, ◌++◌, take, map, pos, flat_map, string_bytes}
-use Rattle.carton_text.specs.StrictLines.{spaced}
+use Rattle.carton_lines.specs.StrictLines.{spaced}
 use Rattle.carton_text.proofs.plan_writing.write_edges.Given as goal
 
 abbrev pub invariant-loop-crease : goal.invariant-loop-crease

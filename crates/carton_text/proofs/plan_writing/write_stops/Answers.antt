@@ -3,7 +3,7 @@ use Rattle.std.specs.Int.{w8}
 use Rattle.std.specs.List.{flat_map}
 use Rattle.std.proofs.lemmas.Int.{to_z-of_z}
 use Rattle.carton_model.specs.Moves.{stop_of}
-use Rattle.carton_text.specs.StrictLines.{spaced}
+use Rattle.carton_lines.specs.StrictLines.{spaced}
 use Rattle.carton_text.specs.Plans.{joint_stops}
 use Rattle.carton_text.proofs.PlanStops.{one_more}
 use Rattle.carton_text.proofs.plan_writing.write_stops.Goals as goal

@@ -1,5 +1,5 @@
 use Rattle.std.proofs.Common.{◌≡◌, ◌++◌, flat_map, string_bytes}
-use Rattle.carton_text.specs.StrictLines.{spaced}
+use Rattle.carton_lines.specs.StrictLines.{spaced}
 use Rattle.carton_text.specs.Plans.{joint_stops}
 use Rattle.carton_text.proofs.plan_writing.write_stops.Given as goal
 

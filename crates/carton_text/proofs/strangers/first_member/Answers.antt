@@ -3,7 +3,7 @@ use Rattle.std.specs.List.{find}
 use Rattle.carton_base.specs.declared.ids.EdgeId.{EdgeId}
 use Rattle.carton_text.specs.JobRules.{members}
 use Rattle.carton_text.specs.Tasks.{is_among}
-use Rattle.carton_text.proofs.Items.{next_item}
+use Rattle.carton_lines.proofs.Items.{next_item}
 use Rattle.carton_text.proofs.Finding.{in_team, past_team}
 use Rattle.carton_text.proofs.strangers.first_member.Goals as goal
 

@@ -3,7 +3,7 @@ use Rattle.std.proofs.lemmas.Result.{err_from_is_err_and}
 use Rattle.carton_base.specs.Steps.{entries_from}
 use Rattle.carton_base.proofs.Entries.{goes_on, ends, is_done}
 use Rattle.carton_text.specs.Tasks.{team_of}
-use Rattle.carton_text.proofs.Items.{next_item, none_left}
+use Rattle.carton_lines.proofs.Items.{next_item, none_left}
 use Rattle.carton_text.proofs.teams.told_teams.Goals as goal
 
 pub returns-in_err-team-clause-value : goal.returns-in_err-team-clause-value

@@ -1,7 +1,7 @@
 use Rattle.std.proofs.Common.{◌≡◌, ap, sym, ◌∙◌, true, false, get_or}
 use Rattle.std.specs.List.{list_any}
 use Rattle.carton_text.specs.Jobs.{is_same, name_each}
-use Rattle.carton_text.proofs.Items.{first_left, none_left}
+use Rattle.carton_lines.proofs.Items.{first_left, none_left}
 use Rattle.carton_text.proofs.Naming.{goes_on, ends, is_done}
 use Rattle.carton_text.proofs.telling.name_each.Goals as goal
 

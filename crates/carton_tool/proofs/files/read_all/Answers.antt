@@ -1,8 +1,8 @@
 use Rattle.std.proofs.Common.{◌∙◌, ap, [], Err, IsErrOf}
 use Rattle.carton_io.specs.declared.shelf.ShelfError.{ShelfError}
 use Rattle.carton_io.specs.declared.shelf.ShelfError.TheVariants.{TooLong}
-use Rattle.carton_tool.specs.declared.files.FileKind.TheVariants.{Dieline}
-use Rattle.carton_tool.specs.declared.files.Wanted.{Wanted}
+use Rattle.carton_words.specs.declared.kinds.FileKind.TheVariants.{Dieline}
+use Rattle.carton_words.specs.declared.givens.Wanted.{Wanted}
 use Rattle.carton_tool.proofs.Reaching.{read_next, long_next, read_to_end, last_length}
 use Rattle.carton_tool.proofs.files.read_all.Goals as goal
 

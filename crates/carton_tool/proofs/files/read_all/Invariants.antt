@@ -1,5 +1,5 @@
 use Rattle.std.proofs.Common.{◌≡◌, ℕ, List, map, drop}
-use Rattle.carton_tool.specs.Asked.{named}
+use Rattle.carton_words.specs.Asked.{named}
 use Rattle.carton_tool.specs.Files.{IsLengthOfLast}
 use Rattle.carton_tool.proofs.Reaching.{IsFront}
 use Rattle.carton_tool.proofs.files.read_all.Given as goal

@@ -1,4 +1,4 @@
-use Rattle.std.proofs.Common.{◌≡◌, Bool, false, IsTrue}
+use Rattle.std.proofs.Common.{◌≡◌, false, IsTrue}
 use Rattle.std.specs.Prelude.{Contains}
 use Rattle.carton_base.specs.declared.ids.EdgeId.{EdgeId}
 use Rattle.carton_base.proofs.Loops.{NoneBelow}

@@ -1,4 +1,4 @@
-use Rattle.std.proofs.Common.{ℕ, ◌<◌, ◌≤◌, length, arith, below_more}
+use Rattle.std.proofs.Common.{◌<◌, length, arith, below_more}
 use Rattle.carton_tree.specs.Rules.{IsApart}
 use Rattle.carton_tree.proofs.Deciding.{apart, not_apart}
 use Rattle.carton_tree.proofs.build.first_apart.Goals as goal

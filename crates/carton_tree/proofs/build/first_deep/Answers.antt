@@ -1,4 +1,4 @@
-use Rattle.std.proofs.Common.{◌≡◌, ℕ, ◌<◌, ◌≤◌, length, None, true, not, sym, ◌∙◌, ap, arith, below_more}
+use Rattle.std.proofs.Common.{◌≡◌, ◌<◌, length, None, true, not, ◌∙◌, ap, arith, below_more}
 use Rattle.std.specs.Prelude.{is_some}
 use Rattle.carton_tree.specs.Rules.{IsDeep}
 use Rattle.carton_tree.specs.Steps.{spot_at}

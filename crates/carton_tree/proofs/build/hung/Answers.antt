@@ -1,4 +1,4 @@
-use Rattle.std.proofs.Common.{◌≡◌, ◌<◌, ◌≤◌, List, length, refl, subst, arith}
+use Rattle.std.proofs.Common.{◌<◌, List, length, refl, subst, arith}
 use Rattle.carton_tree.specs.declared.hinges.Hinge.{Hinge}
 use Rattle.carton_tree.specs.Steps.{AreOpen, IsFirstLoop}
 use Rattle.carton_tree.proofs.Tying.{first_loop, no_loops}

@@ -1,4 +1,4 @@
-use Rattle.std.proofs.Common.{◌≡◌, ℕ, ◌<◌, ◌≤◌, List, length, inl, inr, Option, subst, arith}
+use Rattle.std.proofs.Common.{length, inl, inr, subst, arith}
 use Rattle.std.proofs.lemmas.Result.{err_from_is_err_and}
 use Rattle.carton_base.specs.declared.limits.TheConstants.{LONGEST_PATH}
 use Rattle.carton_panels.specs.DielinePanels.{ArePanels}

@@ -1,4 +1,4 @@
-use Rattle.std.proofs.Common.{◌≡◌, ◌∙◌, sym, Option, ℕ, ◌<◌, ◌≤◌, length, None, inl, inr, subst, arith, below_more}
+use Rattle.std.proofs.Common.{◌≡◌, ◌∙◌, sym, Option, None, inl, inr, subst, arith, below_more}
 use Rattle.std.specs.Prelude.{IsSomeAnd}
 use Rattle.std.proofs.lemmas.Bool.{cases_lt}
 use Rattle.std.proofs.lemmas.List.{get_or_past, get_or_default}

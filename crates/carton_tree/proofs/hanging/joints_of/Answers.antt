@@ -1,4 +1,4 @@
-use Rattle.std.proofs.Common.{◌≡◌, ◌<◌, length, refl, sym, subst, arith}
+use Rattle.std.proofs.Common.{◌<◌, length, refl, arith}
 use Rattle.std.proofs.lemmas.List.{length_push}
 use Rattle.carton_tree.proofs.Keeping.{joints_more}
 use Rattle.carton_tree.proofs.hanging.joints_of.Goals as goal

@@ -1,14 +1,13 @@
-use Rattle.std.proofs.Common.{rules, ◌≡◌, ℕ, ◌<◌, ◌≤◌, List, length, get_or, Option, SFits, sym, ◌∙◌, ap, subst, refl, to_z, of_z, unsigned_abs, arith}
-use Rattle.std.specs.Prelude.{IfSome}
+use Rattle.std.proofs.Common.{rules, ◌≡◌, ℕ, ◌≤◌, List, get_or, SFits, sym, ◌∙◌, ap, subst, refl, to_z, of_z, unsigned_abs, arith}
 use Rattle.std.specs.Int.{w32, w8}
-use Rattle.std.proofs.lemmas.Int.{ints, to_z-of_z}
+use Rattle.std.proofs.lemmas.Int.{to_z-of_z}
 use Rattle.std.proofs.lemmas.List.{get_or_default}
 use Rattle.carton_base.specs.declared.dieline.RawDieline.{RawDieline}
 use Rattle.carton_base.specs.declared.ids.EdgeId.{EdgeId}
 use Rattle.carton_base.specs.declared.motion.Turn.{Turn}
 use Rattle.carton_base.specs.declared.limits.TheConstants.{FARTHEST, MOST_JOINTS}
 use Rattle.carton_tree.specs.declared.hinges.Hinge.{Hinge}
-use Rattle.carton_tree.specs.Joints.{IsPlace, IsTurnOf, LiesBeyond}
+use Rattle.carton_tree.specs.Joints.{IsPlace, IsTurnOf}
 use Rattle.carton_tree.specs.Steps.{IsHinge}
 use Rattle.carton_tree.proofs.Placing.{place_below, line_near}
 use Rattle.carton_tree.proofs.hanging.turn_of.Goals as goal

@@ -1,4 +1,4 @@
-use Rattle.std.proofs.Common.{◌≡◌, ℕ, ◌<◌, List, length, get_or, sym, subst, arith, below_more}
+use Rattle.std.proofs.Common.{◌≡◌, ◌<◌, length, get_or, sym, subst, arith, below_more}
 use Rattle.carton_base.specs.declared.ids.PanelId.{PanelId}
 use Rattle.carton_base.proofs.Loops.{at_yes, at_no}
 use Rattle.carton_tree.specs.declared.besides.Beside.{Beside}

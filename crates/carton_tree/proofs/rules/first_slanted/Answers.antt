@@ -1,4 +1,4 @@
-use Rattle.std.proofs.Common.{◌≡◌, ℕ, ◌<◌, List, length, sym, ◌∙◌, arith, below_more}
+use Rattle.std.proofs.Common.{◌<◌, length, sym, ◌∙◌, arith, below_more}
 use Rattle.carton_base.proofs.Loops.{at_no}
 use Rattle.carton_tree.specs.Rules.{IsSlantedJoint}
 use Rattle.carton_tree.proofs.Ways.{no_pair}

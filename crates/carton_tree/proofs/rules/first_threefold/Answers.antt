@@ -1,4 +1,4 @@
-use Rattle.std.proofs.Common.{◌≡◌, ℕ, ◌<◌, List, length, get_or, subst, arith, below_more}
+use Rattle.std.proofs.Common.{◌<◌, length, get_or, subst, arith, below_more}
 use Rattle.carton_tree.specs.declared.besides.Beside.{Beside}
 use Rattle.carton_tree.specs.declared.besides.Beside.TheVariants.{Nobody}
 use Rattle.carton_tree.specs.Joints.{IsSide}

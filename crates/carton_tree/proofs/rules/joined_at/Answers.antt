@@ -1,4 +1,4 @@
-use Rattle.std.proofs.Common.{◌≡◌, ℕ, ◌<◌, List, length, get_or, subst, ◌∙◌, sym}
+use Rattle.std.proofs.Common.{◌<◌, List, length, get_or, subst, sym}
 use Rattle.std.proofs.lemmas.Option.{get_or_from_slice_get}
 use Rattle.carton_base.specs.declared.dieline.Letter.{Letter}
 use Rattle.carton_base.specs.declared.dieline.Letter.TheVariants.{Boundary}

@@ -1,4 +1,4 @@
-use Rattle.std.proofs.Common.{◌≡◌, ℕ, ◌<◌, ◌≤◌, List, [], ◌∷◌, length, refl, sym, subst, arith}
+use Rattle.std.proofs.Common.{◌≤◌, List, length, refl, sym, subst, arith}
 use Rattle.std.proofs.lemmas.List.{length_push}
 use Rattle.carton_base.specs.declared.ids.EdgeId.{EdgeId}
 use Rattle.std.proofs.lemmas.Result.{err_from_is_err_and}

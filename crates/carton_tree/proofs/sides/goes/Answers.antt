@@ -1,5 +1,4 @@
-use Rattle.std.proofs.Common.{◌≡◌, ℕ, ◌<◌, ◌≤◌, List, length, get_or, ap, sym, ◌∙◌, arith}
-use Rattle.std.proofs.lemmas.List.{get_or_default}
+use Rattle.std.proofs.Common.{◌≡◌, ℕ, ◌<◌, length, ap, sym, ◌∙◌, arith}
 use Rattle.carton_base.proofs.Loops.{yes, no, none_more}
 use Rattle.carton_panels.specs.Around.{Step, around}
 use Rattle.carton_panels.proofs.Steps.{length-around}

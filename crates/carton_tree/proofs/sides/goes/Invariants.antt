@@ -1,4 +1,4 @@
-use Rattle.std.proofs.Common.{◌≡◌, ℕ, ◌<◌}
+use Rattle.std.proofs.Common.{◌≡◌, ℕ}
 use Rattle.carton_base.proofs.Loops.{NoneBelow}
 use Rattle.carton_panels.specs.Around.{Step, around}
 use Rattle.carton_tree.proofs.sides.goes.Given as goal

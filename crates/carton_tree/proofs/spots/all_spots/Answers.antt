@@ -1,4 +1,4 @@
-use Rattle.std.proofs.Common.{◌≡◌, ℕ, List, set, replicate, Option, Some, None, refl, ◌∙◌, subst, arith}
+use Rattle.std.proofs.Common.{◌≡◌, List, set, replicate, Option, Some, None, refl, ◌∙◌, subst, arith}
 use Rattle.std.proofs.lemmas.List.{get_or-set_same, get_or-set_other, length-set}
 use Rattle.carton_base.specs.declared.limits.TheConstants.{LONGEST_PATH}
 use Rattle.carton_tree.specs.declared.spots.Spot.{Spot}

@@ -1,4 +1,4 @@
-use Rattle.std.proofs.Common.{◌≡◌, List, get_or, set, Option, ap, sym}
+use Rattle.std.proofs.Common.{List, set, Option, ap}
 use Rattle.std.proofs.lemmas.List.{get_or_default}
 use Rattle.carton_tree.specs.declared.hinges.Hinge.{Hinge}
 use Rattle.carton_tree.specs.declared.spots.Spot.{Spot}

@@ -1,9 +1,9 @@
-use Rattle.std.proofs.Common.{◌≡◌, List, Option, Some, None, sym, ◌∙◌, ap, subst}
+use Rattle.std.proofs.Common.{◌≡◌, Some, None, sym, ◌∙◌, ap, subst}
 use Rattle.std.specs.Prelude.{Contains}
 use Rattle.carton_base.specs.declared.ids.PanelId.{PanelId}
 use Rattle.carton_tree.specs.Trees.{Tree, path, first_shared, number_or, parting}
 use Rattle.carton_tree.specs.Cartons.{IsCarton}
-use Rattle.carton_tree.proofs.Meeting.{shared_in, not_unshared, root_on}
+use Rattle.carton_tree.proofs.Meeting.{shared_in, root_on}
 use Rattle.carton_tree.proofs.carton.Carton.parting.Goals as goal
 
 pub returns-in-Some-clause-parting : goal.returns-in-Some-clause-parting

@@ -1,11 +1,9 @@
-use Rattle.std.proofs.Common.{◌≡◌, ℕ, ◌<◌, ◌≤◌, List, length, get_or, take, sym, ◌∙◌, ap, subst, arith}
+use Rattle.std.proofs.Common.{◌≡◌, ◌<◌, List, length, get_or, take, sym, ◌∙◌, ap, subst, arith}
 use Rattle.std.proofs.lemmas.List.{length-take, length-take-le, get_or-take}
-use Rattle.carton_base.specs.declared.ids.PanelId.{PanelId}
 use Rattle.carton_base.specs.declared.limits.TheConstants.{LONGEST_PATH}
 use Rattle.carton_base.specs.declared.motion.Turn.{Turn}
 use Rattle.carton_model.specs.Turning.{IsTurn}
 use Rattle.carton_tree.specs.Trees.{Tree, path, turns_by, turns_up, steps_to}
-use Rattle.carton_tree.specs.Cartons.{IsCarton}
 use Rattle.carton_tree.proofs.Keeping.{turns_kept}
 use Rattle.carton_tree.proofs.Meeting.{few_turns, valid_turns, steps_fit}
 use Rattle.carton_tree.proofs.carton.Carton.turns.Goals as goal

@@ -1,0 +1,14 @@
+//! The cartons, jobs and plans that tests share: their texts, and the steps that set them up.
+#![tactic(auto)]
+
+pub mod bodies;
+pub mod catalogues;
+pub mod dielines;
+pub mod fixtures;
+pub mod jobs;
+pub mod plans;
+mod setting_up;
+mod telling;
+
+pub use setting_up::{Case, Files, carton_of, case_of, files_of, plan_of};
+pub use telling::tells_place;

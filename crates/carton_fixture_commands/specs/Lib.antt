@@ -1,0 +1,3 @@
+pub mod Fixture
+pub mod Notes
+pub mod Verify

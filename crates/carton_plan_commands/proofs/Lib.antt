@@ -1,0 +1,8 @@
+pub mod Judged
+pub mod MadeLines
+pub mod OneFlat
+pub mod OneRefusal
+pub mod Parted
+pub mod PlanSound
+pub mod Reached
+pub mod Sound

@@ -1,0 +1,65 @@
+-- What `check` tells: whether a plan is sound for the carton and the task of a job.
+use Rattle.std.specs.Prelude.{◌≡◌, ℕ, nat_eq, List, ◌++◌, codes, Ok, if◌then◌else◌}
+use Rattle.carton_base.specs.declared.ids.PanelId.{PanelId}
+use Rattle.carton_base.specs.declared.moments.Moment.{Moment}
+use Rattle.carton_check.specs.Checks.{IsChecked}
+use Rattle.carton_check.specs.Sound.{IsSound}
+use Rattle.carton_check.specs.declared.checked.Checked.{Checked}
+use Rattle.carton_check.specs.declared.checked.Checked.TheVariants.{WrongCreases, WrongStart, WrongEnd, NotOneStop, Blocked, Holds}
+use Rattle.carton_text.specs.PlainPlans.{plain}
+use Rattle.carton_text.specs.Plans.{plan_of}
+use Rattle.carton_text.specs.declared.plan.Plan.{Plan}
+use Rattle.carton_setup.specs.Outcomes.{Outcomes, ◌>>=◌, gives, values}
+use Rattle.carton_setup.specs.Printed.{line, spaced, moment_text}
+use Rattle.carton_setup.specs.Setups.{setups, plans}
+use Rattle.carton_setup.specs.Telling.{done, denied}
+use Rattle.carton_setup.specs.declared.setup.Setup.{Setup}
+use Rattle.carton_setup.specs.declared.told.Ending.TheVariants.{Done}
+use Rattle.carton_setup.specs.declared.told.Told.{Told}
+
+-- two panels aren't parted well at this moment of a move
+abbrev pub blocked_text : ℕ → PanelId → PanelId → Moment → List ℕ
+blocked_text i a b m = codes "blocked move" ++ spaced i ++ (codes " panels" ++ spaced a.0 ++ (spaced b.0 ++ (codes " moment " ++ moment_text m)))
+
+-- a move is too long; where the stride is one stop, it is said so
+abbrev pub too_long_text : ℕ → List ℕ
+too_long_text stride = if nat_eq stride 1 then codes "not one stop" else codes "past stride"
+
+-- what is told of a plan, for a task of this stride
+abbrev pub checked_text : ℕ → Checked → List ℕ
+checked_text stride WrongCreases = codes "wrong creases"
+checked_text stride WrongStart = codes "wrong start"
+checked_text stride WrongEnd = codes "wrong end"
+checked_text stride (NotOneStop i) = too_long_text stride ++ spaced i
+checked_text stride (Blocked i a b m) = blocked_text i a b m
+checked_text stride (Holds moves) = codes "holds" ++ spaced moves
+
+-- that line is told, and done where the plan holds
+abbrev pub told_check : ℕ → Checked → Told
+told_check stride (Holds moves) = done (line (checked_text stride (Holds moves)))
+told_check stride WrongCreases = denied (line (checked_text stride WrongCreases))
+told_check stride WrongStart = denied (line (checked_text stride WrongStart))
+told_check stride WrongEnd = denied (line (checked_text stride WrongEnd))
+told_check stride (NotOneStop i) = denied (line (checked_text stride (NotOneStop i)))
+told_check stride (Blocked i a b m) = denied (line (checked_text stride (Blocked i a b m)))
+
+-- what came of checking a plan for a carton and a task: the first rule that fails, or that it holds, and then it is sound
+pub record IsCheckOf (s : Setup) (plan : Plan) (checked : Checked) : Type 0 where
+  pub checked_is : IsChecked s.carton s.task plan checked
+  pub sound : (moves : ℕ) → checked ≡ Holds moves → IsSound s.carton s.task plan
+
+-- what `check` may tell for the bytes of a dieline's, of a job's and of a plan's file
+abbrev pub tells_check : List ℕ → List ℕ → List ℕ → Outcomes Told
+tells_check dieline job plan = do
+  s ← setups dieline job
+  p ← plans plan
+  checked ← values (IsCheckOf s p)
+  gives (told_check s.task.stride checked)
+
+-- the bytes are those of a carton, of a task on it, and of a plan that is sound for them
+abbrev pub AreSound : List ℕ → List ℕ → List ℕ → Type 0
+AreSound dieline job plan = (s : Setup) × (p : Plan) × setups dieline job (Ok s) × (plan_of plan ≡ Ok (plain p)) × IsSound s.carton s.task p
+
+-- done is told only of a sound plan
+abbrev pub IsDoneOfSound : List ℕ → List ℕ → List ℕ → Told → Type 0
+IsDoneOfSound dieline job plan told = told.ending ≡ Done → AreSound dieline job plan

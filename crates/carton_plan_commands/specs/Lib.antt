@@ -1,0 +1,7 @@
+pub mod Check
+pub mod Clearance
+pub mod Flat
+pub mod FlatPairs
+pub mod Make
+pub mod Plan
+pub mod Pose

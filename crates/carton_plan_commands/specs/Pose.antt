@@ -1,0 +1,15 @@
+-- What `pose` tells: where the corners of the panels stand in a state of a task.
+use Rattle.std.specs.Prelude.{ℕ, List}
+use Rattle.carton_text.specs.Poses.{IsPose}
+use Rattle.carton_setup.specs.Outcomes.{Outcomes, ◌>>=◌, gives, values}
+use Rattle.carton_setup.specs.Setups.{setups, state_at}
+use Rattle.carton_setup.specs.Telling.{done}
+use Rattle.carton_setup.specs.declared.told.Told.{Told}
+use Rattle.carton_words.specs.declared.ends.End.{End}
+
+-- what `pose` may tell at this end for the bytes of a dieline's and of a job's file
+abbrev pub tells_pose : End → List ℕ → List ℕ → Outcomes Told
+tells_pose end dieline job = do
+  s ← setups dieline job
+  text ← values (IsPose s.carton (state_at end s.task))
+  gives (done text)

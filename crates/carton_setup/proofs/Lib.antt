@@ -1,0 +1,4 @@
+pub mod Creases
+pub mod OneSetup
+pub mod OneSupply
+pub mod Outcomes

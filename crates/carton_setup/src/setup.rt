@@ -1,0 +1,99 @@
+ghost use Rattle.std.specs.Prelude.{◌≡◌, length, IfOk};
+ghost use Rattle.carton_model.specs.Dielines.{IsDieline};
+ghost use Rattle.carton_model.specs.Moves.{IsState};
+ghost use Rattle.carton_text.specs.JobRules.{IsJob};
+ghost use Rattle.carton_text.specs.PlanRules.{AreCreases, IsPlan};
+ghost use Rattle.carton_text.specs.TaskRules.{IsTask};
+ghost use Rattle.carton_tree.specs.Cartons.{IsCarton};
+ghost use Rattle.carton_setup.specs.Outcomes.{IsOutcome};
+ghost use Rattle.carton_setup.specs.Setups.{dielines, jobs, plans, cartons, tasks, setups, IsRight, state_at};
+
+use crate::accepting::accept;
+use crate::refusal::Refusal;
+use carton_base::{PanelId, RawDieline, State};
+use carton_fold::read_dieline;
+use carton_text::{Job, Plan, Task, job_for, read_job, read_plan};
+use carton_tree::{Carton, tree};
+use carton_words::{End, FileKind};
+use std::alloc::Global;
+
+/// What a dieline and a job give: the carton, and the task on it.
+#[derive(Drop)]
+pub struct Setup {
+    pub carton: Carton,
+    pub task: Task,
+}
+
+impl Setup {
+    /// The state of the task at an end.
+    pub fn state(&self, end: End) -> &State
+        requires { IsRight self.now }
+        ensures state { result.now ≡ state_at end self.now.task }
+        ensures of_carton { IsState (length self.now.carton.creases) result.now }
+    {
+        match end {
+            End::Start => &self.task.start,
+            End::Target => &self.task.target,
+        }
+    }
+}
+
+/// The dieline of the bytes of its file.
+pub fn dieline_in(alloc: Global, bytes: &[u8]) -> Result<RawDieline, Refusal>
+    ensures reads { IsOutcome (dielines bytes.now) result }
+    ensures keeps_rules { IfOk result IsDieline }
+{
+    accept(FileKind::Dieline, read_dieline(alloc, bytes))
+}
+
+// The job of the bytes of its file.
+fn job_in(alloc: Global, bytes: &[u8]) -> Result<Job, Refusal>
+    ensures reads { IsOutcome (jobs bytes.now) result }
+    ensures keeps_rules { IfOk result IsJob }
+{
+    accept(FileKind::Job, read_job(alloc, bytes))
+}
+
+/// The plan of the bytes of its file.
+pub fn plan_in(alloc: Global, bytes: &[u8]) -> Result<Plan, Refusal>
+    ensures reads { IsOutcome (plans bytes.now) result }
+    ensures keeps_rules { IfOk result IsPlan }
+{
+    accept(FileKind::Plan, read_plan(alloc, bytes))
+}
+
+// The carton of a dieline, with the margin and the root that the job names.
+fn carton_in(alloc: Global, raw: &RawDieline, job: &Job) -> Result<Carton, Refusal>
+    requires dieline { IsDieline raw.now }
+    requires job { IsJob job.now }
+    ensures hangs { IsOutcome (cartons raw.now job.now) result }
+    ensures keeps_rules { IfOk result IsCarton }
+    ensures creases { IfOk result (λ t. AreCreases t.creases) }
+{
+    let hung = tree(alloc, raw, job.margin, PanelId(job.root));
+    accept(FileKind::Dieline, hung)
+}
+
+// The task of the job on the carton.
+fn task_in(alloc: Global, carton: &Carton, raw: &RawDieline, job: &Job) -> Result<Task, Refusal>
+    requires dieline { IsDieline raw.now }
+    requires job { IsJob job.now }
+    ensures fits { IsOutcome (tasks carton.now raw.now job.now) result }
+    ensures keeps_rules { IfOk result IsTask }
+    ensures creases { IfOk result (λ task. task.creases ≡ carton.now.creases) }
+{
+    accept(FileKind::Job, job_for(alloc, carton, raw, job))
+}
+
+/// What the bytes of a dieline and of a job give. Faults are looked for in this order: the text of
+/// the dieline, the text of the job, the tree of the panels, and that the job fits.
+pub fn set_up(alloc: Global, dieline: &[u8], job: &[u8]) -> Result<Setup, Refusal>
+    ensures sets_up { IsOutcome (setups dieline.now job.now) result }
+    ensures keeps_rules { IfOk result IsRight }
+{
+    let raw = dieline_in(alloc, dieline)?;
+    let job = job_in(alloc, job)?;
+    let carton = carton_in(alloc, &raw, &job)?;
+    let task = task_in(alloc, &carton, &raw, &job)?;
+    Ok(Setup { carton, task })
+}

@@ -1,6 +1,0 @@
-use Rattle.std.proofs.Common.{◌+◌}
-use Rattle.carton_tool.specs.FlatPairs.{IsJudgedSoFar}
-use Rattle.carton_tool.proofs.flat.judge.Given as goal
-
-abbrev pub invariant-loop-a : goal.invariant-loop-a
-invariant-loop-a l = IsJudgedSoFar l.margin l.raw l.a (l.a + 1) l.count

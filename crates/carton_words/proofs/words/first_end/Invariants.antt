@@ -1,0 +1,7 @@
+use Rattle.std.proofs.Common.{◌≡◌, drop, map}
+use Rattle.carton_words.specs.Asked.{given}
+use Rattle.carton_words.specs.Commands.{end_in}
+use Rattle.carton_words.proofs.words.first_end.Given as goal
+
+abbrev pub invariant-loop-given : goal.invariant-loop-given
+invariant-loop-given l = end_in (map given (drop l.given-index l.givens)) ≡ end_in (map given l.givens)

@@ -1,0 +1,6 @@
+pub mod Kinds
+pub mod Rows
+pub mod Table
+pub mod Words
+pub mod Commands
+pub mod Asked
