@@ -4,6 +4,7 @@ use Rattle.carton_fixture_text.specs.FixtureTexts.{fixture_of}
 use Rattle.carton_fixture_text.specs.declared.fixture.Fixture.{Fixture}
 use Rattle.carton_setup.proofs.OneSupply.{excludes_after_supply}
 use Rattle.carton_setup.proofs.Outcomes.{excludes_after, excludes_reads, excludes_told}
+use Rattle.carton_setup.specs.Files.{file_at}
 use Rattle.carton_setup.specs.Outcomes.{Outcomes, ◌>>=◌, gives, values, Exclude}
 use Rattle.carton_setup.specs.Rules.{line_rule}
 use Rattle.carton_setup.specs.declared.supply.Supply.{Supply}
@@ -16,18 +17,18 @@ use Rattle.carton_fixture_commands.specs.Verify.{IsVerifiedFor, told_verified, f
 abbrev pub made : Supply → Outcomes Told
 made s = values (IsMadeFor s) >>= λ m. gives (told_fixture s.setup.task.stride m)
 
-pub excludes_fixture : (dieline job plan catalogue : List ℕ) → Exclude (tells_fixture dieline job plan catalogue) (tells_fixture dieline job plan catalogue)
-excludes_fixture dieline job plan catalogue =
-    excludes_after_supply dieline job plan catalogue made made (λ s u. excludes_told (IsMadeFor s) (IsMadeFor u) (told_fixture s.setup.task.stride) (told_fixture u.setup.task.stride))
+pub excludes_fixture : (files : List (List ℕ)) → Exclude (tells_fixture files) (tells_fixture files)
+excludes_fixture files =
+    excludes_after_supply files made made (λ s u. excludes_told (IsMadeFor s) (IsMadeFor u) (told_fixture s.setup.task.stride) (told_fixture u.setup.task.stride))
 
 abbrev pub verified : Supply → Fixture → Outcomes Told
 verified s f = values (IsVerifiedFor s f) >>= λ v. gives (told_verified s.setup.task.stride v)
 
-abbrev pub verifies : List ℕ → Supply → Outcomes Told
-verifies fixture s = fixtures fixture >>= verified s
+abbrev pub verifies : List (List ℕ) → Supply → Outcomes Told
+verifies files s = fixtures files >>= verified s
 
-pub excludes_verify : (dieline job plan catalogue fixture : List ℕ) → Exclude (tells_verify dieline job plan catalogue fixture) (tells_verify dieline job plan catalogue fixture)
-excludes_verify dieline job plan catalogue fixture =
-    excludes_after_supply dieline job plan catalogue (verifies fixture) (verifies fixture) (λ s u.
-    excludes_after (fixtures fixture) (fixtures fixture) (verified s) (verified u) (excludes_reads FixtureFile line_rule Memory (λ f. f) (fixture_of fixture) refl)
+pub excludes_verify : (files : List (List ℕ)) → Exclude (tells_verify files) (tells_verify files)
+excludes_verify files =
+    excludes_after_supply files (verifies files) (verifies files) (λ s u.
+    excludes_after (fixtures files) (fixtures files) (verified s) (verified u) (excludes_reads FixtureFile line_rule Memory (λ f. f) (fixture_of (file_at 4 files)) refl)
     (λ f g h k. excludes_told (IsVerifiedFor s f) (IsVerifiedFor u g) (told_verified s.setup.task.stride) (told_verified u.setup.task.stride)))

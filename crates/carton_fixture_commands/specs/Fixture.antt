@@ -43,9 +43,9 @@ IsWritable (Made fixture) = IsFixture fixture
 IsWritable (PlanFails checked) = ⊤
 IsWritable (NotHeld bodies unheld) = ⊤
 
--- what `fixture` may tell for the bytes of its four files
-abbrev pub tells_fixture : List ℕ → List ℕ → List ℕ → List ℕ → Outcomes Told
-tells_fixture dieline job plan catalogue = do
-  s ← supplies dieline job plan catalogue
+-- what `fixture` may tell for the bytes of its files
+abbrev pub tells_fixture : List (List ℕ) → Outcomes Told
+tells_fixture files = do
+  s ← supplies files
   made ← values (IsMadeFor s)
   gives (told_fixture s.setup.task.stride made)

@@ -5,6 +5,7 @@ use Rattle.carton_fixture.specs.declared.answers.Verified.{Verified}
 use Rattle.carton_fixture.specs.declared.answers.Verified.TheVariants.{PlanFails, OtherStroke, NotCandidate, Touches, Unheld, Holds}
 use Rattle.carton_fixture_text.specs.FixtureTexts.{fixture_of}
 use Rattle.carton_fixture_text.specs.declared.fixture.Fixture.{Fixture}
+use Rattle.carton_setup.specs.Files.{file_at}
 use Rattle.carton_setup.specs.Outcomes.{Outcomes, ◌>>=◌, gives, values, reads}
 use Rattle.carton_setup.specs.Printed.{line, spaced}
 use Rattle.carton_setup.specs.Rules.{line_rule}
@@ -26,18 +27,18 @@ told_verified stride (Touches id panel step m) = denied (touch_line id panel ste
 told_verified stride (Unheld u) = denied (line (unheld_text u))
 told_verified stride (Holds bodies) = done (line (codes "holds" ++ spaced bodies))
 
--- the fixture of a text
-abbrev pub fixtures : List ℕ → Outcomes Fixture
-fixtures bytes = reads FixtureFile line_rule Memory (λ f. f) (fixture_of bytes)
+-- the fixture of the fifth file
+abbrev pub fixtures : List (List ℕ) → Outcomes Fixture
+fixtures files = reads FixtureFile line_rule Memory (λ f. f) (fixture_of (file_at 4 files))
 
 -- what came of verifying a fixture for a carton, a task, a plan and a catalogue
 abbrev pub IsVerifiedFor : Supply → Fixture → Verified → Type 0
 IsVerifiedFor s fixture verified = IsVerified s.setup.carton s.setup.task s.plan s.catalogue fixture verified
 
--- what `verify` may tell for the bytes of its five files: after the other files, a fault is looked for in the text of the fixture
-abbrev pub tells_verify : List ℕ → List ℕ → List ℕ → List ℕ → List ℕ → Outcomes Told
-tells_verify dieline job plan catalogue fixture = do
-  s ← supplies dieline job plan catalogue
-  f ← fixtures fixture
+-- what `verify` may tell for the bytes of its files: after the other files, a fault is looked for in the text of the fixture
+abbrev pub tells_verify : List (List ℕ) → Outcomes Told
+tells_verify files = do
+  s ← supplies files
+  f ← fixtures files
   verified ← values (IsVerifiedFor s f)
   gives (told_verified s.setup.task.stride verified)

@@ -81,17 +81,11 @@ fn made_for(alloc: Global, supply: &Supply) -> Result<MadeFixture, Refusal>
     }
 }
 
-/// What `fixture` tells for the bytes of a dieline's, of a job's, of a plan's and of a catalogue's file.
-pub fn tell_fixture(
-    alloc: Global,
-    dieline: &[u8],
-    job: &[u8],
-    plan: &[u8],
-    catalogue: &[u8],
-) -> Result<Told, Refusal>
-    ensures { IsOutcome (tells_fixture dieline.now job.now plan.now catalogue.now) result }
+/// What `fixture` tells for the bytes of its files.
+pub fn tell_fixture(alloc: Global, files: &[Listed<u8>]) -> Result<Told, Refusal>
+    ensures { IsOutcome (tells_fixture files.now) result }
 {
-    let supply = supply_from(alloc, dieline, job, plan, catalogue)?;
+    let supply = supply_from(alloc, files)?;
     let made = made_for(alloc, &supply)?;
     Ok(told_fixture(alloc, supply.setup.task.stride, &made)?)
 }

@@ -5,8 +5,9 @@ ghost use Rattle.carton_setup.specs.Outcomes.{IsOutcome};
 
 use crate::fixture::plan_fails_text;
 use crate::notes::{touch_line, unheld_line};
+use carton_base::Listed;
 use carton_fixture::{Fixture, Verified, read_fixture, verify};
-use carton_setup::{Refusal, Supply, Told, accept, supply_from};
+use carton_setup::{Refusal, Supply, Told, accept, bytes_at, supply_from};
 use carton_words::FileKind;
 use std::alloc::{AllocError, Global};
 
@@ -33,28 +34,20 @@ fn told_verified(alloc: Global, stride: u8, verified: Verified) -> Result<Told, 
     Ok(Told::denied(text.into_bytes()))
 }
 
-// The fixture of the bytes of its file.
-fn fixture_in(alloc: Global, bytes: &[u8]) -> Result<Fixture, Refusal>
-    ensures reads { IsOutcome (fixtures bytes.now) result }
+// The fixture of the fifth file.
+fn fixture_in(alloc: Global, files: &[Listed<u8>]) -> Result<Fixture, Refusal>
+    ensures reads { IsOutcome (fixtures files.now) result }
     ensures keeps_rules { IfOk result IsFixture }
 {
-    accept(FileKind::Fixture, read_fixture(alloc, bytes))
+    accept(FileKind::Fixture, read_fixture(alloc, bytes_at(files, 4)))
 }
 
-/// What `verify` tells for the bytes of a dieline's, of a job's, of a plan's, of a catalogue's and of a
-/// fixture's file.
-pub fn tell_verify(
-    alloc: Global,
-    dieline: &[u8],
-    job: &[u8],
-    plan: &[u8],
-    catalogue: &[u8],
-    fixture: &[u8],
-) -> Result<Told, Refusal>
-    ensures { IsOutcome (tells_verify dieline.now job.now plan.now catalogue.now fixture.now) result }
+/// What `verify` tells for the bytes of its files.
+pub fn tell_verify(alloc: Global, files: &[Listed<u8>]) -> Result<Told, Refusal>
+    ensures { IsOutcome (tells_verify files.now) result }
 {
-    let supply = supply_from(alloc, dieline, job, plan, catalogue)?;
-    let fixture = fixture_in(alloc, fixture)?;
+    let supply = supply_from(alloc, files)?;
+    let fixture = fixture_in(alloc, files)?;
     let Supply {
         setup,
         plan,

@@ -3,9 +3,8 @@ use Rattle.std.proofs.Common.{◌≡◌, ◌∙◌, refl, sym, ap, subst, ℕ, �
 use Rattle.std.proofs.lemmas.List.{append_assoc, append-nil}
 use Rattle.carton_base.specs.declared.limits.TheConstants.{MOST_STATES}
 use Rattle.carton_base.specs.declared.motion.State.{State}
-use Rattle.carton_made.specs.Made.{dieline_text, job_text}
 use Rattle.carton_search.specs.Paths.{moves_of}
-use Rattle.carton_plan_commands.specs.Make.{Outcome, made_line, moves_in, lines_from, total_of, AreOutcomes, AreLinesOf}
+use Rattle.carton_plan_commands.specs.Make.{made_files, Outcome, made_line, moves_in, lines_from, total_of, AreOutcomes, AreLinesOf}
 use Rattle.carton_plan_commands.specs.Plan.{plannings, IsPlanned}
 use Rattle.carton_plan_commands.specs.declared.plan.Planned.TheVariants.{Found, StartBlocked, NoPath, OutOfTurns}
 use Rattle.carton_plan_commands.specs.declared.plan.Planned.{Planned}
@@ -16,11 +15,11 @@ use Rattle.carton_setup.specs.Setups.{setups}
 use Rattle.carton_setup.specs.declared.setup.Setup.{Setup}
 
 -- one more outcome, that of the next number
-more_outcomes : (k : ℕ) (outcomes : List Outcome) (next : Outcome) → AreOutcomes k outcomes → plannings (dieline_text (k + length outcomes)) (job_text (k + length outcomes)) next → AreOutcomes k (outcomes ++ next ∷ [])
-more_outcomes k [] next are is = let same : k + 0 ≡ k = omega arith in (subst (λ n. plannings (dieline_text n) (job_text n) next) same is, tt)
+more_outcomes : (k : ℕ) (outcomes : List Outcome) (next : Outcome) → AreOutcomes k outcomes → plannings (made_files (k + length outcomes)) next → AreOutcomes k (outcomes ++ next ∷ [])
+more_outcomes k [] next are is = let same : k + 0 ≡ k = omega arith in (subst (λ n. plannings (made_files n) next) same is, tt)
 more_outcomes k (o ∷ others) next are is =
     let same : k + length (o ∷ others) ≡ k + 1 + length others = omega arith in
-    (are.0, more_outcomes (k + 1) others next are.1 (subst (λ n. plannings (dieline_text n) (job_text n) next) same is))
+    (are.0, more_outcomes (k + 1) others next are.1 (subst (λ n. plannings (made_files n) next) same is))
 
 more_lines : (k : ℕ) (outcomes : List Outcome) (next : Outcome) → lines_from k (outcomes ++ next ∷ []) ≡ lines_from k outcomes ++ made_line (k + length outcomes) next
 more_lines k [] next = let same : k + 0 ≡ k = omega arith in append-nil (made_line k next) ∙ ap (λ n. made_line n next) (sym same)
@@ -41,11 +40,11 @@ pub no_lines : AreLinesOf 0 [] 0
 no_lines = ([], (refl, tt), refl, refl)
 
 -- the line of the next number, after those before it
-pub next_line : (k : ℕ) (lines : List ℕ) (total : ℕ) (next : Outcome) → AreLinesOf k lines total → plannings (dieline_text k) (job_text k) next → AreLinesOf (k + 1) (lines ++ made_line k next) (total + moves_in next)
+pub next_line : (k : ℕ) (lines : List ℕ) (total : ℕ) (next : Outcome) → AreLinesOf k lines total → plannings (made_files k) next → AreLinesOf (k + 1) (lines ++ made_line k next) (total + moves_in next)
 next_line k lines total next are is =
     let os = are.0 in
     let count : k ≡ 0 + length os = omega (arith, are.1.0) in
-    let is_next = subst (λ n. plannings (dieline_text n) (job_text n) next) count is in
+    let is_next = subst (λ n. plannings (made_files n) next) count is in
     let texts : lines ++ made_line k next ≡ lines_from 0 (os ++ next ∷ []) =
     ap (λ ls. ls ++ made_line k next) are.2 ∙ ap (λ n. lines_from 0 os ++ made_line n next) count ∙ sym (more_lines 0 os next) in
     (os ++ next ∷ [], (one_longer os next ∙ ap (λ n. n + 1) are.1.0, more_outcomes 0 os next are.1.1 is_next), texts, omega (arith, are.3, more_moves os next))
@@ -61,10 +60,6 @@ few_planned s NoPath h = omega arith
 few_planned s (OutOfTurns moves) h = omega arith
 
 -- a plan has not too many moves
-pub few_moves : (dieline job : List ℕ) (outcome : Outcome) → plannings dieline job outcome → moves_in outcome ≤ MOST_STATES
-few_moves dieline job (Ok answer) h = let s = passed (setups dieline job) (λ s. values (IsPlanned s)) answer h in few_planned s.0 answer s.2
-few_moves dieline job (Err file) h = omega arith
-
--- what comes of planning for the bytes of the made texts comes of planning for the texts
-pub planned_of : (k : ℕ) (dieline job : List ℕ) (outcome : Outcome) → dieline ≡ dieline_text k → job ≡ job_text k → plannings dieline job outcome → plannings (dieline_text k) (job_text k) outcome
-planned_of k dieline job outcome d j h = subst (λ x. plannings x (job_text k) outcome) d (subst (λ y. plannings dieline y outcome) j h)
+pub few_moves : (files : List (List ℕ)) (outcome : Outcome) → plannings files outcome → moves_in outcome ≤ MOST_STATES
+few_moves files (Ok answer) h = let s = passed (setups files) (λ s. values (IsPlanned s)) answer h in few_planned s.0 answer s.2
+few_moves files (Err file) h = omega arith

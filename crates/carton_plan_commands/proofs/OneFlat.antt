@@ -5,6 +5,7 @@ use Rattle.carton_fold.specs.Dieline.{dieline_of}
 use Rattle.carton_fold.specs.declared.error.FoldError.TheVariants.{Memory as NoMemoryForDieline}
 use Rattle.carton_panels.specs.declared.error.PanelError.{PanelError}
 use Rattle.carton_panels.specs.declared.error.PanelError.TheVariants.{Memory}
+use Rattle.carton_setup.specs.Files.{file_at}
 use Rattle.carton_setup.specs.Outcomes.{Outcomes, ◌>>=◌, gives, Exclude}
 use Rattle.carton_setup.specs.Rules.{fold_rule, panel_rule}
 use Rattle.carton_setup.specs.Setups.{dielines}
@@ -64,22 +65,22 @@ excludes_after_dieline m d =
     (λ v w h k. no_refusals (gives (told_verdict v)) (gives (told_verdict w)) (never_given (told_verdict v)) (never_given (told_verdict w)))
 
 -- where the dieline is refused, nothing else is allowed
-pub excludes_flat : (m : ℕ) (dieline : List ℕ) → Exclude (tells_flat m dieline) (tells_flat m dieline)
-excludes_flat m dieline =
-    excludes_after (dielines dieline) (dielines dieline) (after_dieline m) (after_dieline m) (excludes_reads Dieline fold_rule NoMemoryForDieline (λ d. d) (dieline_of dieline) refl)
-    (λ d e h k. subst (λ x. Exclude (after_dieline m d) (after_dieline m x)) (one_dieline dieline d e h k) (excludes_after_dieline m d))
+pub excludes_flat : (m : ℕ) (files : List (List ℕ)) → Exclude (tells_flat m files) (tells_flat m files)
+excludes_flat m files =
+    excludes_after (dielines files) (dielines files) (after_dieline m) (after_dieline m) (excludes_reads Dieline fold_rule NoMemoryForDieline (λ d. d) (dieline_of (file_at 0 files)) refl)
+    (λ d e h k. subst (λ x. Exclude (after_dieline m d) (after_dieline m x)) (one_dieline files d e h k) (excludes_after_dieline m d))
 
 same_told : (m : ℕ) (d e : RawDieline) (v w : FlatVerdict) (a b : Told) → d ≡ e → IsVerdict m d v → IsVerdict m e w → ok_of a ≡ ok_of (told_verdict v) → ok_of b ≡ ok_of (told_verdict w) → a ≡ b
 same_told m d e v w a b same h k first second =
     same_value a (told_verdict v) first ∙ ap told_verdict (one_verdict m e v w (subst (λ x. IsVerdict m x v) same h) k) ∙ sym (same_value b (told_verdict w) second)
 
 -- what is told is one
-pub one_flat : (m : ℕ) (dieline : List ℕ) (a b : Result Told BadFile) → tells_flat m dieline a → tells_flat m dieline b → a ≡ b
-one_flat m dieline (Err bad) b h k = sym ((excludes_flat m dieline).first bad b h k)
-one_flat m dieline (Ok a) (Err bad) h k = (excludes_flat m dieline).first bad (Ok a) k h
-one_flat m dieline (Ok a) (Ok b) h k =
-    let d = passed (dielines dieline) (after_dieline m) a h in
-    let e = passed (dielines dieline) (after_dieline m) b k in
+pub one_flat : (m : ℕ) (files : List (List ℕ)) (a b : Result Told BadFile) → tells_flat m files a → tells_flat m files b → a ≡ b
+one_flat m files (Err bad) b h k = sym ((excludes_flat m files).first bad b h k)
+one_flat m files (Ok a) (Err bad) h k = (excludes_flat m files).first bad (Ok a) k h
+one_flat m files (Ok a) (Ok b) h k =
+    let d = passed (dielines files) (after_dieline m) a h in
+    let e = passed (dielines files) (after_dieline m) b k in
     let v = passed (verdicts m d.0) (λ v. gives (told_verdict v)) a d.2 in
     let w = passed (verdicts m e.0) (λ v. gives (told_verdict v)) b e.2 in
-    ap (λ (x : Told). Ok x) (same_told m d.0 e.0 v.0 w.0 a b (one_dieline dieline d.0 e.0 d.1 e.1) v.1.1 w.1.1 v.2 w.2)
+    ap (λ (x : Told). Ok x) (same_told m d.0 e.0 v.0 w.0 a b (one_dieline files d.0 e.0 d.1 e.1) v.1.1 w.1.1 v.2 w.2)

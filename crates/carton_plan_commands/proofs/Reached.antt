@@ -22,10 +22,10 @@ use Rattle.carton_plan_commands.specs.declared.plan.Planned.{Planned}
 use Rattle.carton_plan_commands.specs.declared.plan.Planned.TheVariants.{Found, StartBlocked, NoPath, OutOfTurns}
 
 -- the carton, the task and the answer of which something is told
-told_of : (dieline job : List ℕ) (told : Told) → tells_plan dieline job (Ok told) → (s : Setup) × (answer : Planned) × setups dieline job (Ok s) × IsPlanned s answer × (told ≡ told_plan answer)
-told_of dieline job told h =
-    let answer = passed (plannings dieline job) (λ answer. gives (told_plan answer)) told h in
-    let s = passed (setups dieline job) (λ s. values (IsPlanned s)) answer.0 answer.1 in
+told_of : (files : List (List ℕ)) (told : Told) → tells_plan files (Ok told) → (s : Setup) × (answer : Planned) × setups files (Ok s) × IsPlanned s answer × (told ≡ told_plan answer)
+told_of files told h =
+    let answer = passed (plannings files) (λ answer. gives (told_plan answer)) told h in
+    let s = passed (setups files) (λ s. values (IsPlanned s)) answer.0 answer.1 in
     (s.0, answer.0, s.1, s.2, same_value told (told_plan answer.0) answer.2)
 
 best_of : (s : Setup) (answer : Planned) → IsPlanned s answer → (told_plan answer).ending ≡ Done → (plan : Plan) × IsBest s plan × ((told_plan answer).text ≡ spelling plan)
@@ -35,9 +35,9 @@ best_of s NoPath h e = absurd (cc)
 best_of s (OutOfTurns moves) h e = absurd (cc)
 
 -- where done is told, the spelling of a best plan is
-pub tells_best : (dieline job : List ℕ) (told : Told) → tells_plan dieline job (Ok told) → told.ending ≡ Done → (s : Setup) × (plan : Plan) × setups dieline job (Ok s) × IsBest s plan × (told.text ≡ spelling plan)
-tells_best dieline job told h done =
-    let t = told_of dieline job told h in
+pub tells_best : (files : List (List ℕ)) (told : Told) → tells_plan files (Ok told) → told.ending ≡ Done → (s : Setup) × (plan : Plan) × setups files (Ok s) × IsBest s plan × (told.text ≡ spelling plan)
+tells_best files told h done =
+    let t = told_of files told h in
     let b = best_of t.0 t.1 t.3 (sym (ap (λ (x : Told). x.ending) t.4) ∙ done) in
     (t.0, b.0, t.2, b.1, ap (λ (x : Told). x.text) t.4 ∙ b.2)
 
@@ -55,9 +55,9 @@ found_of s (OutOfTurns moves) h near =
     absurd (budget s.task s.carton (TurnsEnd moves) (record { plan = tt; path = tt; clear = tt; least = tt; still = tt; blocked = tt; none = tt; few = h.0; cause = h.1 }) near.0 near.1 near.2)
 
 -- all cartons and tasks of the bytes have such a path where one has
-near_each : (dieline job : List ℕ) (s u : Setup) → setups dieline job (Ok s) → setups dieline job (Ok u) → HasNear s → HasNear u
-near_each dieline job s u h k near =
-    let alike = are_alike dieline job s u h k in
+near_each : (files : List (List ℕ)) (s u : Setup) → setups files (Ok s) → setups files (Ok u) → HasNear s → HasNear u
+near_each files s u h k near =
+    let alike = are_alike files s u h k in
     let task = task_by_outline s.task u.task alike.outline in (
       near.0,
       subst (λ (t : Task). IsSlackPath t u.carton near.0) task (same_slack_path s.task s.carton u.carton near.0 alike.same near.1),
@@ -65,11 +65,11 @@ near_each dieline job s u h k near =
     )
 
 -- where the bytes are accepted and a path is in reach, done is told
-pub done_in_reach : (dieline job : List ℕ) (s : Setup) (outcome : Result Told BadFile) → setups dieline job (Ok s) → HasNear s → tells_plan dieline job outcome → (told : Told) × (outcome ≡ Ok told) × (told.ending ≡ Done)
-done_in_reach dieline job s (Ok told) sets near h =
-    let t = told_of dieline job told h in
-    (told, refl, ap (λ (x : Told). x.ending) t.4 ∙ found_of t.0 t.1 t.3 (near_each dieline job s t.0 sets t.2 near))
-done_in_reach dieline job s (Err bad) sets near h = absurd (elim h [ inl on ↦ not_bad (told_plan on.0) bad (sym on.2) | inr off ↦ none_planned off.0 off.1 ])
+pub done_in_reach : (files : List (List ℕ)) (s : Setup) (outcome : Result Told BadFile) → setups files (Ok s) → HasNear s → tells_plan files outcome → (told : Told) × (outcome ≡ Ok told) × (told.ending ≡ Done)
+done_in_reach files s (Ok told) sets near h =
+    let t = told_of files told h in
+    (told, refl, ap (λ (x : Told). x.ending) t.4 ∙ found_of t.0 t.1 t.3 (near_each files s t.0 sets t.2 near))
+done_in_reach files s (Err bad) sets near h = absurd (elim h [ inl on ↦ not_bad (told_plan on.0) bad (sym on.2) | inr off ↦ none_planned off.0 off.1 ])
   where
-    none_planned : (other : BadFile) → plannings dieline job (Err other) → ⊥
-    none_planned other refused = elim refused [ inl on ↦ on.2 | inr off ↦ not_bad s off.0 ((excludes_setups dieline job).first off.0 (Ok s) off.1 sets) ]
+    none_planned : (other : BadFile) → plannings files (Err other) → ⊥
+    none_planned other refused = elim refused [ inl on ↦ on.2 | inr off ↦ not_bad s off.0 ((excludes_setups files).first off.0 (Ok s) off.1 sets) ]

@@ -27,10 +27,10 @@ held stride (Holds moves) e = (moves, refl)
 ending_is : (a b : Told) → ok_of a ≡ ok_of b → a.ending ≡ Done → b.ending ≡ Done
 ending_is a b e done = sym (ap (λ (t : Told). t.ending) (same_value a b e)) ∙ done
 
-pub sound_check : (dieline job plan : List ℕ) (told : Told) → tells_check dieline job plan (Ok told) → IsDoneOfSound dieline job plan told
-sound_check dieline job plan told h = λ done.
-    let s = passed (setups dieline job) (λ s. plans plan >>= λ p. values (IsCheckOf s p) >>= λ c. gives (told_check s.task.stride c)) told h in
-    let p = passed (plans plan) (λ p. values (IsCheckOf s.0 p) >>= λ c. gives (told_check s.0.task.stride c)) told s.2 in
+pub sound_check : (files : List (List ℕ)) (told : Told) → tells_check files (Ok told) → IsDoneOfSound files told
+sound_check files told h = λ done.
+    let s = passed (setups files) (λ s. plans files >>= λ p. values (IsCheckOf s p) >>= λ c. gives (told_check s.task.stride c)) told h in
+    let p = passed (plans files) (λ p. values (IsCheckOf s.0 p) >>= λ c. gives (told_check s.0.task.stride c)) told s.2 in
     let c = passed (values (IsCheckOf s.0 p.0)) (λ c. gives (told_check s.0.task.stride c)) told p.2 in
     let m = held s.0.task.stride c.0 (ending_is told (told_check s.0.task.stride c.0) c.2 done) in
     (s.0, p.0, s.1, p.1, c.1.sound m.0 m.1)
@@ -40,9 +40,9 @@ sound_report : (s : Setup) (p : Plan) (r : Report) → IsReport s p r → (told_
 sound_report s p (Rows rows) h e = h.1
 sound_report s p (Fails checked) h e = absurd (cc)
 
-pub sound_clearance : (dieline job plan : List ℕ) (told : Told) → tells_clearance dieline job plan (Ok told) → IsDoneOfSound dieline job plan told
-sound_clearance dieline job plan told h = λ done.
-    let s = passed (setups dieline job) (λ s. plans plan >>= λ p. values (IsReport s p) >>= λ r. gives (told_report s.task.stride r)) told h in
-    let p = passed (plans plan) (λ p. values (IsReport s.0 p) >>= λ r. gives (told_report s.0.task.stride r)) told s.2 in
+pub sound_clearance : (files : List (List ℕ)) (told : Told) → tells_clearance files (Ok told) → IsDoneOfSound files told
+sound_clearance files told h = λ done.
+    let s = passed (setups files) (λ s. plans files >>= λ p. values (IsReport s p) >>= λ r. gives (told_report s.task.stride r)) told h in
+    let p = passed (plans files) (λ p. values (IsReport s.0 p) >>= λ r. gives (told_report s.0.task.stride r)) told s.2 in
     let r = passed (values (IsReport s.0 p.0)) (λ r. gives (told_report s.0.task.stride r)) told p.2 in
     (s.0, p.0, s.1, p.1, sound_report s.0 p.0 r.0 r.1 (ending_is told (told_report s.0.task.stride r.0) r.2 done))

@@ -9,6 +9,7 @@ use Rattle.carton_check.specs.declared.checked.Checked.TheVariants.{WrongCreases
 use Rattle.carton_text.specs.PlainPlans.{plain}
 use Rattle.carton_text.specs.Plans.{plan_of}
 use Rattle.carton_text.specs.declared.plan.Plan.{Plan}
+use Rattle.carton_setup.specs.Files.{file_at}
 use Rattle.carton_setup.specs.Outcomes.{Outcomes, ◌>>=◌, gives, values}
 use Rattle.carton_setup.specs.Printed.{line, spaced, moment_text}
 use Rattle.carton_setup.specs.Setups.{setups, plans}
@@ -48,18 +49,18 @@ pub record IsCheckOf (s : Setup) (plan : Plan) (checked : Checked) : Type 0 wher
   pub checked_is : IsChecked s.carton s.task plan checked
   pub sound : (moves : ℕ) → checked ≡ Holds moves → IsSound s.carton s.task plan
 
--- what `check` may tell for the bytes of a dieline's, of a job's and of a plan's file
-abbrev pub tells_check : List ℕ → List ℕ → List ℕ → Outcomes Told
-tells_check dieline job plan = do
-  s ← setups dieline job
-  p ← plans plan
+-- what `check` may tell for the bytes of its files
+abbrev pub tells_check : List (List ℕ) → Outcomes Told
+tells_check files = do
+  s ← setups files
+  p ← plans files
   checked ← values (IsCheckOf s p)
   gives (told_check s.task.stride checked)
 
 -- the bytes are those of a carton, of a task on it, and of a plan that is sound for them
-abbrev pub AreSound : List ℕ → List ℕ → List ℕ → Type 0
-AreSound dieline job plan = (s : Setup) × (p : Plan) × setups dieline job (Ok s) × (plan_of plan ≡ Ok (plain p)) × IsSound s.carton s.task p
+abbrev pub AreSound : List (List ℕ) → Type 0
+AreSound files = (s : Setup) × (p : Plan) × setups files (Ok s) × (plan_of (file_at 2 files) ≡ Ok (plain p)) × IsSound s.carton s.task p
 
 -- done is told only of a sound plan
-abbrev pub IsDoneOfSound : List ℕ → List ℕ → List ℕ → Told → Type 0
-IsDoneOfSound dieline job plan told = told.ending ≡ Done → AreSound dieline job plan
+abbrev pub IsDoneOfSound : List (List ℕ) → Told → Type 0
+IsDoneOfSound files told = told.ending ≡ Done → AreSound files

@@ -41,10 +41,10 @@ abbrev pub IsReport : Setup → Plan → Report → Type 0
 IsReport s plan (Rows rows) = IsCleared s.carton s.task plan (AllRows rows) × IsSound s.carton s.task plan
 IsReport s plan (Fails checked) = IsCleared s.carton s.task plan (Failed checked)
 
--- what `clearance` may tell for the bytes of a dieline's, of a job's and of a plan's file
-abbrev pub tells_clearance : List ℕ → List ℕ → List ℕ → Outcomes Told
-tells_clearance dieline job plan = do
-  s ← setups dieline job
-  p ← plans plan
+-- what `clearance` may tell for the bytes of its files
+abbrev pub tells_clearance : List (List ℕ) → Outcomes Told
+tells_clearance files = do
+  s ← setups files
+  p ← plans files
   report ← values (IsReport s p)
   gives (told_report s.task.stride report)

@@ -53,9 +53,9 @@ IsJudged m d (Err e) = e ≢ Memory → IsFirstRefused m d e
 abbrev pub verdicts : ℕ → RawDieline → Outcomes FlatVerdict
 verdicts m d = results Dieline panel_rule (IsJudged m d)
 
--- what `flat` may tell with this margin for the bytes of the dieline's file
-abbrev pub tells_flat : ℕ → List ℕ → Outcomes Told
-tells_flat m dieline = do
-  d ← dielines dieline
+-- what `flat` may tell with this margin for the bytes of its files
+abbrev pub tells_flat : ℕ → List (List ℕ) → Outcomes Told
+tells_flat m files = do
+  d ← dielines files
   verdict ← verdicts m d
   gives (told_verdict verdict)

@@ -54,10 +54,14 @@ abbrev pub total_of : List Outcome → ℕ
 total_of [] = 0
 total_of (outcome ∷ others) = moves_in outcome + total_of others
 
+-- the two texts that are made of number k
+abbrev pub made_files : ℕ → List (List ℕ)
+made_files k = dieline_text k ∷ job_text k ∷ []
+
 -- these may come of planning for the made dielines and jobs of the numbers from k on
 abbrev pub AreOutcomes : ℕ → List Outcome → Type 0
 AreOutcomes k [] = ⊤
-AreOutcomes k (outcome ∷ others) = plannings (dieline_text k) (job_text k) outcome × AreOutcomes (k + 1) others
+AreOutcomes k (outcome ∷ others) = plannings (made_files k) outcome × AreOutcomes (k + 1) others
 
 -- so many outcomes, one for each number from 0 on
 abbrev pub AreFirstOutcomes : ℕ → List Outcome → Type 0

@@ -61,14 +61,14 @@ IsWritable (StartBlocked a b) = ⊤
 IsWritable NoPath = ⊤
 IsWritable (OutOfTurns moves) = ⊤
 
--- what may come of planning for the bytes of a dieline's and of a job's file
-abbrev pub plannings : List ℕ → List ℕ → Outcomes Planned
-plannings dieline job = do
-  s ← setups dieline job
+-- what may come of planning for the bytes of the files
+abbrev pub plannings : List (List ℕ) → Outcomes Planned
+plannings files = do
+  s ← setups files
   values (IsPlanned s)
 
 -- what `plan` may tell
-abbrev pub tells_plan : List ℕ → List ℕ → Outcomes Told
-tells_plan dieline job = do
-  answer ← plannings dieline job
+abbrev pub tells_plan : List (List ℕ) → Outcomes Told
+tells_plan files = do
+  answer ← plannings files
   gives (told_plan answer)

@@ -7,9 +7,9 @@ use Rattle.carton_setup.specs.Telling.{done}
 use Rattle.carton_setup.specs.declared.told.Told.{Told}
 use Rattle.carton_words.specs.declared.ends.End.{End}
 
--- what `pose` may tell at this end for the bytes of a dieline's and of a job's file
-abbrev pub tells_pose : End → List ℕ → List ℕ → Outcomes Told
-tells_pose end dieline job = do
-  s ← setups dieline job
+-- what `pose` may tell at this end for the bytes of its files
+abbrev pub tells_pose : End → List (List ℕ) → Outcomes Told
+tells_pose end files = do
+  s ← setups files
   text ← values (IsPose s.carton (state_at end s.task))
   gives (done text)

@@ -3,7 +3,7 @@ ghost use Rattle.carton_setup.specs.Outcomes.{IsOutcome};
 ghost use Rattle.carton_setup.specs.Printed.{line};
 ghost use Rattle.carton_plan_commands.specs.Check.{blocked_text as blocked_text_of, checked_text as checked_text_of, told_check as told_check_of, tells_check};
 
-use carton_base::{Moment, PanelId};
+use carton_base::{Listed, Moment, PanelId};
 use carton_check::{Checked, check};
 use carton_setup::{Refusal, Told, moment_text, plan_in, set_up};
 use std::alloc::{AllocError, Global};
@@ -55,12 +55,12 @@ fn told_check(alloc: Global, stride: u8, checked: Checked) -> Result<Told, Alloc
     }
 }
 
-/// What `check` tells for the bytes of a dieline's, of a job's and of a plan's file.
-pub fn tell_check(alloc: Global, dieline: &[u8], job: &[u8], plan: &[u8]) -> Result<Told, Refusal>
-    ensures { IsOutcome (tells_check dieline.now job.now plan.now) result }
+/// What `check` tells for the bytes of its files.
+pub fn tell_check(alloc: Global, files: &[Listed<u8>]) -> Result<Told, Refusal>
+    ensures { IsOutcome (tells_check files.now) result }
 {
-    let setup = set_up(alloc, dieline, job)?;
-    let plan = plan_in(alloc, plan)?;
+    let setup = set_up(alloc, files)?;
+    let plan = plan_in(alloc, files)?;
     let checked = check(&setup.carton, &setup.task, &plan);
     Ok(told_check(alloc, setup.task.stride, checked)?)
 }

@@ -101,17 +101,12 @@ fn report_on(alloc: Global, setup: &Setup, plan: &Plan) -> Result<Report, Refusa
     }
 }
 
-/// What `clearance` tells for the bytes of a dieline's, of a job's and of a plan's file.
-pub fn tell_clearance(
-    alloc: Global,
-    dieline: &[u8],
-    job: &[u8],
-    plan: &[u8],
-) -> Result<Told, Refusal>
-    ensures { IsOutcome (tells_clearance dieline.now job.now plan.now) result }
+/// What `clearance` tells for the bytes of its files.
+pub fn tell_clearance(alloc: Global, files: &[Listed<u8>]) -> Result<Told, Refusal>
+    ensures { IsOutcome (tells_clearance files.now) result }
 {
-    let setup = set_up(alloc, dieline, job)?;
-    let plan = plan_in(alloc, plan)?;
+    let setup = set_up(alloc, files)?;
+    let plan = plan_in(alloc, files)?;
     let report = report_on(alloc, &setup, &plan)?;
     Ok(told_report(alloc, setup.task.stride, &report)?)
 }

@@ -7,7 +7,7 @@ ghost use Rattle.carton_setup.specs.Outcomes.{IsOutcome};
 ghost use Rattle.carton_plan_commands.specs.Flat.{told_verdict as told_verdict_of, IsVerdict, verdicts, tells_flat};
 ghost use Rattle.carton_plan_commands.specs.FlatPairs.{IsJudgedSoFar, IsRow};
 
-use carton_base::{PanelId, RawDieline, WIDEST_MARGIN};
+use carton_base::{Listed, PanelId, RawDieline, WIDEST_MARGIN};
 use carton_panels::{PanelShape, common_crease, flat_parted, panels};
 use carton_setup::{Refusal, Told, accept, dieline_in};
 use carton_words::FileKind;
@@ -114,12 +114,12 @@ fn verdict_on(alloc: Global, raw: &RawDieline, margin: u16) -> Result<FlatVerdic
     }
 }
 
-/// What `flat` tells for the bytes of a dieline's file.
-pub fn tell_flat(alloc: Global, dieline: &[u8], margin: u16) -> Result<Told, Refusal>
+/// What `flat` tells for the bytes of its files.
+pub fn tell_flat(alloc: Global, files: &[Listed<u8>], margin: u16) -> Result<Told, Refusal>
     requires { margin ≤ WIDEST_MARGIN }
-    ensures { IsOutcome (tells_flat margin dieline.now) result }
+    ensures { IsOutcome (tells_flat margin files.now) result }
 {
-    let raw = dieline_in(alloc, dieline)?;
+    let raw = dieline_in(alloc, files)?;
     let verdict = verdict_on(alloc, &raw, margin)?;
     Ok(told_verdict(alloc, verdict)?)
 }

@@ -1,27 +1,35 @@
 ghost use Rattle.std.specs.Prelude.{◌≡◌, ◌<◌, ◌≤◌, IfOk, string_bytes};
 ghost use Rattle.carton_base.specs.declared.limits.TheConstants.{MOST_STATES};
-ghost use Rattle.carton_made.specs.Made.{dieline_text, job_text};
 ghost use Rattle.carton_search.specs.Paths.{moves_of as moves_of_states};
 ghost use Rattle.carton_setup.specs.Outcomes.{IsOutcome};
 ghost use Rattle.carton_plan_commands.specs.Plan.{plannings};
-ghost use Rattle.carton_plan_commands.specs.Make.{planned_line as planned_line_of, told_line as told_line_of, made_line as made_line_of, planned_moves as planned_moves_of, moves_in as moves_in_of, AreLinesOf, tells_make};
+ghost use Rattle.carton_plan_commands.specs.Make.{made_files as made_files_of, planned_line as planned_line_of, told_line as told_line_of, made_line as made_line_of, planned_moves as planned_moves_of, moves_in as moves_in_of, AreLinesOf, tells_make};
 
 use crate::plan::{Planned, no_plan_line, plan_for, start_line, turns_line};
-use carton_base::{OutOfMemory, State};
+use carton_base::{Listed, OutOfMemory, State};
 use carton_made::{kind_of, made_dieline, made_job, size_of};
 use carton_setup::{BadFile, Refusal, Told, refusal_text};
 use carton_words::MOST_MADE;
 use std::alloc::{AllocError, Global};
 
+// The files that are made of number k, a dieline and a job.
+fn made_files(alloc: Global, k: u32) -> Result<Vec<Listed<u8>>, OutOfMemory>
+    requires { k < MOST_MADE }
+    ensures { IfOk result (λ files. files.items ≡ made_files_of k) }
+{
+    let dieline = Listed::from_vec(made_dieline(alloc, k)?);
+    let job = Listed::from_vec(made_job(alloc, k)?);
+    Ok(vec![in alloc; dieline, job]?)
+}
+
 // What comes of planning for the made dieline and the made job of number k.
 fn outcome_at(alloc: Global, k: u32) -> Result<Result<Planned, BadFile>, OutOfMemory>
     requires { k < MOST_MADE }
-    ensures planned { IfOk result (plannings (dieline_text k) (job_text k)) }
+    ensures planned { IfOk result (plannings (made_files_of k)) }
     ensures few { IfOk result (λ outcome. moves_in_of outcome ≤ MOST_STATES) }
 {
-    let dieline = made_dieline(alloc, k)?;
-    let job = made_job(alloc, k)?;
-    match plan_for(alloc, &dieline, &job) {
+    let files = made_files(alloc, k)?;
+    match plan_for(alloc, &files) {
         Ok(answer) => Ok(Ok(answer)),
         Err(Refusal::Bad(file)) => Ok(Err(file)),
         Err(Refusal::NoMemory) => Err(OutOfMemory),

@@ -5,7 +5,7 @@ ghost use Rattle.carton_setup.specs.Outcomes.{IsOutcome, values};
 ghost use Rattle.carton_setup.specs.Setups.{IsRight};
 ghost use Rattle.carton_plan_commands.specs.Plan.{start_line as start_line_of, no_plan_line as no_plan_line_of, turns_line as turns_line_of, told_plan as told_plan_of, IsPlanned, IsWritable, plannings, tells_plan};
 
-use carton_base::{OutOfMemory, PanelId};
+use carton_base::{Listed, OutOfMemory, PanelId};
 use carton_judge::{Judge, RangeJudge};
 use carton_search::{SearchEnd, search};
 use carton_setup::{Refusal, Setup, Told, set_up};
@@ -93,19 +93,19 @@ fn planned_for(alloc: Global, setup: &Setup) -> Result<Planned, Refusal>
     }
 }
 
-/// What comes of planning for the bytes of a dieline's and of a job's file.
-pub fn plan_for(alloc: Global, dieline: &[u8], job: &[u8]) -> Result<Planned, Refusal>
-    ensures planned { IsOutcome (plannings dieline.now job.now) result }
+/// What comes of planning for the bytes of the files, a dieline and a job.
+pub fn plan_for(alloc: Global, files: &[Listed<u8>]) -> Result<Planned, Refusal>
+    ensures planned { IsOutcome (plannings files.now) result }
     ensures writable { IfOk result IsWritable }
 {
-    let setup = set_up(alloc, dieline, job)?;
+    let setup = set_up(alloc, files)?;
     planned_for(alloc, &setup)
 }
 
-/// What `plan` tells for the bytes of a dieline's and of a job's file.
-pub fn tell_plan(alloc: Global, dieline: &[u8], job: &[u8]) -> Result<Told, Refusal>
-    ensures { IsOutcome (tells_plan dieline.now job.now) result }
+/// What `plan` tells for the bytes of its files.
+pub fn tell_plan(alloc: Global, files: &[Listed<u8>]) -> Result<Told, Refusal>
+    ensures { IsOutcome (tells_plan files.now) result }
 {
-    let answer = plan_for(alloc, dieline, job)?;
+    let answer = plan_for(alloc, files)?;
     Ok(told_plan(alloc, &answer)?)
 }

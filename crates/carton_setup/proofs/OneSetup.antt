@@ -24,6 +24,7 @@ use Rattle.carton_text.specs.declared.job.Job.{Job}
 use Rattle.carton_text.specs.declared.job_error.JobError.TheVariants.{Memory as NoMemoryForTask}
 use Rattle.carton_text.specs.declared.plan.Plan.{Plan}
 use Rattle.carton_words.specs.declared.kinds.FileKind.TheVariants.{Dieline, Job as JobFile, Plan as PlanFile}
+use Rattle.carton_setup.specs.Files.{file_at}
 use Rattle.carton_setup.specs.Outcomes.{Outcomes, ◌>>=◌, gives, reads, Exclude}
 use Rattle.carton_setup.specs.Rules.{fold_rule, line_rule, tree_rule, fit_rule}
 use Rattle.carton_setup.specs.Setups.{dielines, jobs, plans, cartons, tasks, setups}
@@ -39,11 +40,11 @@ pub record AreAlike (s u : Setup) : Type 0 where
   pub whole : IsCarton s.carton
   pub whole_too : IsCarton u.carton
 
-pub one_dieline : (bytes : List ℕ) (d e : RawDieline) → dielines bytes (Ok d) → dielines bytes (Ok e) → d ≡ e
-one_dieline bytes d e h k = same_ok d e (dieline_of bytes) h k
+pub one_dieline : (files : List (List ℕ)) (d e : RawDieline) → dielines files (Ok d) → dielines files (Ok e) → d ≡ e
+one_dieline files d e h k = same_ok d e (dieline_of (file_at 0 files)) h k
 
-one_job : (bytes : List ℕ) (j k : Job) → jobs bytes (Ok j) → jobs bytes (Ok k) → j ≡ k
-one_job bytes j k h i = same_ok j k (job_of bytes) h i
+one_job : (files : List (List ℕ)) (j k : Job) → jobs files (Ok j) → jobs files (Ok k) → j ≡ k
+one_job files j k h i = same_ok j k (job_of (file_at 1 files)) h i
 
 -- a told error isn't that for want of memory
 not_memory : (e : TreeError) → IsRuled {X = Tree} tree_rule (Err e) → e ≢ Memory
@@ -70,8 +71,8 @@ after_carton d j t = tasks t d j >>= λ task. gives (record { carton = t; task =
 abbrev pub after_job : RawDieline → Job → Outcomes Setup
 after_job d j = cartons d j >>= after_carton d j
 
-abbrev pub after_dieline : List ℕ → RawDieline → Outcomes Setup
-after_dieline job d = jobs job >>= after_job d
+abbrev pub after_dieline : List (List ℕ) → RawDieline → Outcomes Setup
+after_dieline files d = jobs files >>= after_job d
 
 excludes_after_carton : (d : RawDieline) (j : Job) (t u : Tree) → cartons d j (Ok t) → cartons d j (Ok u) → Exclude (after_carton d j t) (after_carton d j u)
 excludes_after_carton d j t u h k =
@@ -81,42 +82,42 @@ excludes_after_carton d j t u h k =
 excludes_after_job : (d : RawDieline) (j : Job) → Exclude (after_job d j) (after_job d j)
 excludes_after_job d j = excludes_after (cartons d j) (cartons d j) (after_carton d j) (after_carton d j) (excludes_cartons d j) (excludes_after_carton d j)
 
-excludes_after_dieline : (job : List ℕ) (d : RawDieline) → Exclude (after_dieline job d) (after_dieline job d)
-excludes_after_dieline job d =
-    excludes_after (jobs job) (jobs job) (after_job d) (after_job d) (excludes_reads JobFile line_rule NoMemoryForLine (λ j. j) (job_of job) refl)
-    (λ j k h i. subst (λ x. Exclude (after_job d j) (after_job d x)) (one_job job j k h i) (excludes_after_job d j))
+excludes_after_dieline : (files : List (List ℕ)) (d : RawDieline) → Exclude (after_dieline files d) (after_dieline files d)
+excludes_after_dieline files d =
+    excludes_after (jobs files) (jobs files) (after_job d) (after_job d) (excludes_reads JobFile line_rule NoMemoryForLine (λ j. j) (job_of (file_at 1 files)) refl)
+    (λ j k h i. subst (λ x. Exclude (after_job d j) (after_job d x)) (one_job files j k h i) (excludes_after_job d j))
 
 -- where a dieline or a job is refused, nothing else is allowed
-pub excludes_setups : (dieline job : List ℕ) → Exclude (setups dieline job) (setups dieline job)
-excludes_setups dieline job =
-    excludes_after (dielines dieline) (dielines dieline) (after_dieline job) (after_dieline job) (excludes_reads Dieline fold_rule NoMemoryForDieline (λ d. d) (dieline_of dieline) refl)
-    (λ d e h k. subst (λ x. Exclude (after_dieline job d) (after_dieline job x)) (one_dieline dieline d e h k) (excludes_after_dieline job d))
+pub excludes_setups : (files : List (List ℕ)) → Exclude (setups files) (setups files)
+excludes_setups files =
+    excludes_after (dielines files) (dielines files) (after_dieline files) (after_dieline files) (excludes_reads Dieline fold_rule NoMemoryForDieline (λ d. d) (dieline_of (file_at 0 files)) refl)
+    (λ d e h k. subst (λ x. Exclude (after_dieline files d) (after_dieline files x)) (one_dieline files d e h k) (excludes_after_dieline files d))
 
 -- the dieline and the job that a carton and a task were made of
-record IsSetUpFrom (dieline job : List ℕ) (s : Setup) : Type 0 where
+record IsSetUpFrom (files : List (List ℕ)) (s : Setup) : Type 0 where
   pub raw : RawDieline
   pub asked : Job
-  pub raw_is : dielines dieline (Ok raw)
-  pub asked_is : jobs job (Ok asked)
+  pub raw_is : dielines files (Ok raw)
+  pub asked_is : jobs files (Ok asked)
   pub carton : IsTreeAnswer asked.margin raw asked.root (Ok s.carton)
   pub task : task_for s.carton raw asked ≡ Ok (outline s.task)
 
-set_up_from : (dieline job : List ℕ) (s : Setup) → setups dieline job (Ok s) → IsSetUpFrom dieline job s
-set_up_from dieline job s h =
-    let d = passed (dielines dieline) (after_dieline job) s h in
-    let j = passed (jobs job) (after_job d.0) s d.2 in
+set_up_from : (files : List (List ℕ)) (s : Setup) → setups files (Ok s) → IsSetUpFrom files s
+set_up_from files s h =
+    let d = passed (dielines files) (after_dieline files) s h in
+    let j = passed (jobs files) (after_job d.0) s d.2 in
     let t = passed (cartons d.0 j.0) (after_carton d.0 j.0) s j.2 in
     let v = passed (tasks t.0 d.0 j.0) (λ task. gives (record { carton = t.0; task = task })) s t.2 in
-    subst (IsSetUpFrom dieline job) (sym (same_value s (record { carton = t.0; task = v.0 }) v.2))
+    subst (IsSetUpFrom files) (sym (same_value s (record { carton = t.0; task = v.0 }) v.2))
     (record { raw = d.0; asked = j.0; raw_is = d.1; asked_is = j.1; carton = t.1; task = v.1 })
 
 -- two setups of the same bytes are alike
-pub are_alike : (dieline job : List ℕ) (s u : Setup) → setups dieline job (Ok s) → setups dieline job (Ok u) → AreAlike s u
-are_alike dieline job s u h k =
-    let m = set_up_from dieline job s h in
-    let n = set_up_from dieline job u k in
-    let d = one_dieline dieline n.raw m.raw n.raw_is m.raw_is in
-    let j = one_job job n.asked m.asked n.asked_is m.asked_is in
+pub are_alike : (files : List (List ℕ)) (s u : Setup) → setups files (Ok s) → setups files (Ok u) → AreAlike s u
+are_alike files s u h k =
+    let m = set_up_from files s h in
+    let n = set_up_from files u k in
+    let d = one_dieline files n.raw m.raw n.raw_is m.raw_is in
+    let j = one_job files n.asked m.asked n.asked_is m.asked_is in
     let tree = subst (λ (x : RawDieline). IsTreeAnswer m.asked.margin x m.asked.root (Ok u.carton)) d (subst (λ (x : Job). IsTreeAnswer x.margin n.raw x.root (Ok u.carton)) j n.carton) in
     let task = subst (λ x. task_for u.carton x m.asked ≡ Ok (outline u.task)) d (subst (λ x. task_for u.carton n.raw x ≡ Ok (outline u.task)) j n.task) in
     record {
@@ -129,10 +130,10 @@ are_alike dieline job s u h k =
     }
 
 -- nor after them, where the next steps on alike setups exclude each other's refusals
-pub excludes_after_setup : {A : Type 0} (dieline job : List ℕ) (P Q : Setup → Outcomes A) → ((s u : Setup) → AreAlike s u → Exclude (P s) (Q u)) → Exclude (setups dieline job >>= P) (setups dieline job >>= Q)
-excludes_after_setup dieline job P Q next = excludes_after (setups dieline job) (setups dieline job) P Q (excludes_setups dieline job) (λ s u h k. next s u (are_alike dieline job s u h k))
+pub excludes_after_setup : {A : Type 0} (files : List (List ℕ)) (P Q : Setup → Outcomes A) → ((s u : Setup) → AreAlike s u → Exclude (P s) (Q u)) → Exclude (setups files >>= P) (setups files >>= Q)
+excludes_after_setup files P Q next = excludes_after (setups files) (setups files) P Q (excludes_setups files) (λ s u h k. next s u (are_alike files s u h k))
 
 -- the same after the plan of a text
-pub excludes_after_plan : {A : Type 0} (plan : List ℕ) (P Q : Plan → Outcomes A) → ((p q : Plan) → plain p ≡ plain q → Exclude (P p) (Q q)) → Exclude (plans plan >>= P) (plans plan >>= Q)
-excludes_after_plan plan P Q next =
-    excludes_after (plans plan) (plans plan) P Q (excludes_reads PlanFile line_rule NoMemoryForLine plain (plan_of plan) refl) (λ p q h k. next p q (same_ok (plain p) (plain q) (plan_of plan) h k))
+pub excludes_after_plan : {A : Type 0} (files : List (List ℕ)) (P Q : Plan → Outcomes A) → ((p q : Plan) → plain p ≡ plain q → Exclude (P p) (Q q)) → Exclude (plans files >>= P) (plans files >>= Q)
+excludes_after_plan files P Q next =
+    excludes_after (plans files) (plans files) P Q (excludes_reads PlanFile line_rule NoMemoryForLine plain (plan_of (file_at 2 files)) refl) (λ p q h k. next p q (same_ok (plain p) (plain q) (plan_of (file_at 2 files)) h k))

@@ -12,6 +12,7 @@ use Rattle.carton_text.specs.PlainPlans.{plain}
 use Rattle.carton_text.specs.Tasks.{Outline}
 use Rattle.carton_text.specs.declared.plan.Plan.{Plan}
 use Rattle.carton_words.specs.declared.kinds.FileKind.TheVariants.{Catalogue as CatalogueFile}
+use Rattle.carton_setup.specs.Files.{file_at}
 use Rattle.carton_setup.specs.Outcomes.{Outcomes, ◌>>=◌, gives, results, Exclude}
 use Rattle.carton_setup.specs.Rules.{catalogue_rule, guides_rule}
 use Rattle.carton_setup.specs.Setups.{plans}
@@ -45,24 +46,24 @@ excludes_fitted s u p q c alike same =
     (λ x y h k. no_refusals (gives first) (gives second) (never_given first) (never_given second))
 
 -- what is left to be done after the plan, and after setting up
-abbrev pub after_plan : List ℕ → Setup → Plan → Outcomes Supply
-after_plan catalogue s p = catalogues catalogue >>= fitted s p
+abbrev pub after_plan : List (List ℕ) → Setup → Plan → Outcomes Supply
+after_plan files s p = catalogues files >>= fitted s p
 
-abbrev pub after_setup : List ℕ → List ℕ → Setup → Outcomes Supply
-after_setup plan catalogue s = plans plan >>= after_plan catalogue s
+abbrev pub after_setup : List (List ℕ) → Setup → Outcomes Supply
+after_setup files s = plans files >>= after_plan files s
 
-excludes_after_both : (catalogue : List ℕ) (s u : Setup) (p q : Plan) → AreAlike s u → plain p ≡ plain q → Exclude (after_plan catalogue s p) (after_plan catalogue u q)
-excludes_after_both catalogue s u p q alike same =
-    excludes_after (catalogues catalogue) (catalogues catalogue) (fitted s p) (fitted u q) (excludes_reads CatalogueFile catalogue_rule Memory (λ c. c) (catalogue_of catalogue) refl)
-    (λ c c' h k. subst (λ x. Exclude (fitted s p c) (fitted u q x)) (same_ok c c' (catalogue_of catalogue) h k) (excludes_fitted s u p q c alike same))
+excludes_after_both : (files : List (List ℕ)) (s u : Setup) (p q : Plan) → AreAlike s u → plain p ≡ plain q → Exclude (after_plan files s p) (after_plan files u q)
+excludes_after_both files s u p q alike same =
+    excludes_after (catalogues files) (catalogues files) (fitted s p) (fitted u q) (excludes_reads CatalogueFile catalogue_rule Memory (λ c. c) (catalogue_of (file_at 3 files)) refl)
+    (λ c c' h k. subst (λ x. Exclude (fitted s p c) (fitted u q x)) (same_ok c c' (catalogue_of (file_at 3 files)) h k) (excludes_fitted s u p q c alike same))
 
 -- where one of the four files is refused, nothing else is allowed
-pub excludes_supplies : (dieline job plan catalogue : List ℕ) → Exclude (supplies dieline job plan catalogue) (supplies dieline job plan catalogue)
-excludes_supplies dieline job plan catalogue =
-    excludes_after_setup dieline job (after_setup plan catalogue) (after_setup plan catalogue)
-    (λ s u alike. excludes_after_plan plan (after_plan catalogue s) (after_plan catalogue u) (λ p q same. excludes_after_both catalogue s u p q alike same))
+pub excludes_supplies : (files : List (List ℕ)) → Exclude (supplies files) (supplies files)
+excludes_supplies files =
+    excludes_after_setup files (after_setup files) (after_setup files)
+    (λ s u alike. excludes_after_plan files (after_plan files s) (after_plan files u) (λ p q same. excludes_after_both files s u p q alike same))
 
 -- nor after them, where the next steps exclude each other's refusals
-pub excludes_after_supply : {A : Type 0} (dieline job plan catalogue : List ℕ) (P Q : Supply → Outcomes A) → ((s u : Supply) → Exclude (P s) (Q u)) → Exclude (supplies dieline job plan catalogue >>= P) (supplies dieline job plan catalogue >>= Q)
-excludes_after_supply dieline job plan catalogue P Q next =
-    excludes_after (supplies dieline job plan catalogue) (supplies dieline job plan catalogue) P Q (excludes_supplies dieline job plan catalogue) (λ s u h k. next s u)
+pub excludes_after_supply : {A : Type 0} (files : List (List ℕ)) (P Q : Supply → Outcomes A) → ((s u : Supply) → Exclude (P s) (Q u)) → Exclude (supplies files >>= P) (supplies files >>= Q)
+excludes_after_supply files P Q next =
+    excludes_after (supplies files) (supplies files) P Q (excludes_supplies files) (λ s u h k. next s u)

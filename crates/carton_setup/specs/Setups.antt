@@ -22,21 +22,22 @@ use Rattle.carton_text.specs.declared.task.Task.{Task}
 use Rattle.carton_words.specs.declared.ends.End.{End}
 use Rattle.carton_words.specs.declared.ends.End.TheVariants.{Start, Target}
 use Rattle.carton_words.specs.declared.kinds.FileKind.TheVariants.{Dieline, Job as JobFile, Plan as PlanFile}
+use Rattle.carton_setup.specs.Files.{file_at}
 use Rattle.carton_setup.specs.Outcomes.{Outcomes, ◌>>=◌, gives, results, reads}
 use Rattle.carton_setup.specs.Rules.{fold_rule, line_rule, tree_rule, fit_rule}
 use Rattle.carton_setup.specs.declared.setup.Setup.{Setup}
 
--- the dieline of a text
-abbrev pub dielines : List ℕ → Outcomes RawDieline
-dielines bytes = reads Dieline fold_rule NoMemoryForDieline (λ d. d) (dieline_of bytes)
+-- the dieline of the first file
+abbrev pub dielines : List (List ℕ) → Outcomes RawDieline
+dielines files = reads Dieline fold_rule NoMemoryForDieline (λ d. d) (dieline_of (file_at 0 files))
 
--- the job of a text
-abbrev pub jobs : List ℕ → Outcomes Job
-jobs bytes = reads JobFile line_rule NoMemoryForLine (λ j. j) (job_of bytes)
+-- the job of the second
+abbrev pub jobs : List (List ℕ) → Outcomes Job
+jobs files = reads JobFile line_rule NoMemoryForLine (λ j. j) (job_of (file_at 1 files))
 
--- the plan of a text
-abbrev pub plans : List ℕ → Outcomes Plan
-plans bytes = reads PlanFile line_rule NoMemoryForLine plain (plan_of bytes)
+-- the plan of the third
+abbrev pub plans : List (List ℕ) → Outcomes Plan
+plans files = reads PlanFile line_rule NoMemoryForLine plain (plan_of (file_at 2 files))
 
 -- the carton of a dieline, with the margin and the root that the job names
 abbrev pub cartons : RawDieline → Job → Outcomes Tree
@@ -46,12 +47,12 @@ cartons d j = results Dieline tree_rule (IsTreeAnswer j.margin d j.root)
 abbrev pub tasks : Tree → RawDieline → Job → Outcomes Task
 tasks t d j = reads JobFile fit_rule NoMemoryForTask outline (task_for t d j)
 
--- the carton and the task for the bytes of a dieline and of a job: faults are looked for in the text of the dieline, in that of the job,
+-- the carton and the task for the bytes of the files: faults are looked for in the text of the dieline, in that of the job,
 -- in the tree and in the job's fit
-abbrev pub setups : List ℕ → List ℕ → Outcomes Setup
-setups dieline job = do
-  d ← dielines dieline
-  j ← jobs job
+abbrev pub setups : List (List ℕ) → Outcomes Setup
+setups files = do
+  d ← dielines files
+  j ← jobs files
   t ← cartons d j
   task ← tasks t d j
   gives (record { carton = t; task = task })

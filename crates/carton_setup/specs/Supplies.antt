@@ -8,15 +8,16 @@ use Rattle.carton_catalogue.specs.declared.catalogue_error.CatalogueError.TheVar
 use Rattle.carton_text.specs.PlanRules.{IsPlan}
 use Rattle.carton_text.specs.declared.plan.Plan.{Plan}
 use Rattle.carton_words.specs.declared.kinds.FileKind.TheVariants.{Catalogue as CatalogueFile}
+use Rattle.carton_setup.specs.Files.{file_at}
 use Rattle.carton_setup.specs.Outcomes.{Outcomes, ◌>>=◌, gives, results, reads}
 use Rattle.carton_setup.specs.Rules.{catalogue_rule, guides_rule}
 use Rattle.carton_setup.specs.Setups.{setups, plans, IsRight}
 use Rattle.carton_setup.specs.declared.setup.Setup.{Setup}
 use Rattle.carton_setup.specs.declared.supply.Supply.{Supply}
 
--- the catalogue of a text
-abbrev pub catalogues : List ℕ → Outcomes Catalogue
-catalogues bytes = reads CatalogueFile catalogue_rule Memory (λ c. c) (catalogue_of bytes)
+-- the catalogue of the fourth file
+abbrev pub catalogues : List (List ℕ) → Outcomes Catalogue
+catalogues files = reads CatalogueFile catalogue_rule Memory (λ c. c) (catalogue_of (file_at 3 files))
 
 -- all of them, where the catalogue fits
 abbrev pub fitted : Setup → Plan → Catalogue → Outcomes Supply
@@ -24,13 +25,13 @@ fitted s p c = do
   fits ← results {X = Unit {0}} CatalogueFile guides_rule (IsFit s.carton s.task p c)
   gives (record { setup = s; plan = p; catalogue = c })
 
--- the carton, the task, the plan and the catalogue for the bytes of their files: after those of setting up, faults are looked for in the
+-- the carton, the task, the plan and the catalogue for the bytes of the files: after those of setting up, faults are looked for in the
 -- text of the plan, in that of the catalogue and in its fit
-abbrev pub supplies : List ℕ → List ℕ → List ℕ → List ℕ → Outcomes Supply
-supplies dieline job plan catalogue = do
-  s ← setups dieline job
-  p ← plans plan
-  c ← catalogues catalogue
+abbrev pub supplies : List (List ℕ) → Outcomes Supply
+supplies files = do
+  s ← setups files
+  p ← plans files
+  c ← catalogues files
   fitted s p c
 
 -- they keep their rules, and the catalogue fits

@@ -5,6 +5,7 @@
 mod accepting;
 mod breach;
 mod breaches;
+mod files;
 mod moment;
 mod refusal;
 mod setup;
@@ -14,6 +15,7 @@ mod told;
 
 pub use accepting::accept;
 pub use breach::Breach;
+pub use files::bytes_at;
 pub use moment::moment_text;
 pub use refusal::{BadFile, Refusal, Rule};
 pub use setup::{Setup, dieline_in, plan_in, set_up};

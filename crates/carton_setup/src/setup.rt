@@ -9,8 +9,9 @@ ghost use Rattle.carton_setup.specs.Outcomes.{IsOutcome};
 ghost use Rattle.carton_setup.specs.Setups.{dielines, jobs, plans, cartons, tasks, setups, IsRight, state_at};
 
 use crate::accepting::accept;
+use crate::files::bytes_at;
 use crate::refusal::Refusal;
-use carton_base::{PanelId, RawDieline, State};
+use carton_base::{Listed, PanelId, RawDieline, State};
 use carton_fold::read_dieline;
 use carton_text::{Job, Plan, Task, job_for, read_job, read_plan};
 use carton_tree::{Carton, tree};
@@ -38,28 +39,28 @@ impl Setup {
     }
 }
 
-/// The dieline of the bytes of its file.
-pub fn dieline_in(alloc: Global, bytes: &[u8]) -> Result<RawDieline, Refusal>
-    ensures reads { IsOutcome (dielines bytes.now) result }
+/// The dieline of the first file.
+pub fn dieline_in(alloc: Global, files: &[Listed<u8>]) -> Result<RawDieline, Refusal>
+    ensures reads { IsOutcome (dielines files.now) result }
     ensures keeps_rules { IfOk result IsDieline }
 {
-    accept(FileKind::Dieline, read_dieline(alloc, bytes))
+    accept(FileKind::Dieline, read_dieline(alloc, bytes_at(files, 0)))
 }
 
-// The job of the bytes of its file.
-fn job_in(alloc: Global, bytes: &[u8]) -> Result<Job, Refusal>
-    ensures reads { IsOutcome (jobs bytes.now) result }
+// The job of the second file.
+fn job_in(alloc: Global, files: &[Listed<u8>]) -> Result<Job, Refusal>
+    ensures reads { IsOutcome (jobs files.now) result }
     ensures keeps_rules { IfOk result IsJob }
 {
-    accept(FileKind::Job, read_job(alloc, bytes))
+    accept(FileKind::Job, read_job(alloc, bytes_at(files, 1)))
 }
 
-/// The plan of the bytes of its file.
-pub fn plan_in(alloc: Global, bytes: &[u8]) -> Result<Plan, Refusal>
-    ensures reads { IsOutcome (plans bytes.now) result }
+/// The plan of the third file.
+pub fn plan_in(alloc: Global, files: &[Listed<u8>]) -> Result<Plan, Refusal>
+    ensures reads { IsOutcome (plans files.now) result }
     ensures keeps_rules { IfOk result IsPlan }
 {
-    accept(FileKind::Plan, read_plan(alloc, bytes))
+    accept(FileKind::Plan, read_plan(alloc, bytes_at(files, 2)))
 }
 
 // The carton of a dieline, with the margin and the root that the job names.
@@ -85,14 +86,14 @@ fn task_in(alloc: Global, carton: &Carton, raw: &RawDieline, job: &Job) -> Resul
     accept(FileKind::Job, job_for(alloc, carton, raw, job))
 }
 
-/// What the bytes of a dieline and of a job give. Faults are looked for in this order: the text of
+/// What the bytes of the first two files, a dieline and a job, give. Faults are looked for in this order: the text of
 /// the dieline, the text of the job, the tree of the panels, and that the job fits.
-pub fn set_up(alloc: Global, dieline: &[u8], job: &[u8]) -> Result<Setup, Refusal>
-    ensures sets_up { IsOutcome (setups dieline.now job.now) result }
+pub fn set_up(alloc: Global, files: &[Listed<u8>]) -> Result<Setup, Refusal>
+    ensures sets_up { IsOutcome (setups files.now) result }
     ensures keeps_rules { IfOk result IsRight }
 {
-    let raw = dieline_in(alloc, dieline)?;
-    let job = job_in(alloc, job)?;
+    let raw = dieline_in(alloc, files)?;
+    let job = job_in(alloc, files)?;
     let carton = carton_in(alloc, &raw, &job)?;
     let task = task_in(alloc, &carton, &raw, &job)?;
     Ok(Setup { carton, task })

@@ -6,8 +6,10 @@ ghost use Rattle.carton_setup.specs.Setups.{IsRight};
 ghost use Rattle.carton_setup.specs.Supplies.{catalogues, fitted as fitted_of, supplies, IsFitted};
 
 use crate::accepting::accept;
+use crate::files::bytes_at;
 use crate::refusal::Refusal;
 use crate::setup::{Setup, plan_in, set_up};
+use carton_base::Listed;
 use carton_catalogue::{Catalogue, fit_catalogue, read_catalogue};
 use carton_text::Plan;
 use carton_words::FileKind;
@@ -22,12 +24,15 @@ pub struct Supply {
     pub catalogue: Catalogue,
 }
 
-// The catalogue of the bytes of its file.
-fn catalogue_in(alloc: Global, bytes: &[u8]) -> Result<Catalogue, Refusal>
-    ensures reads { IsOutcome (catalogues bytes.now) result }
+// The catalogue of the fourth file.
+fn catalogue_in(alloc: Global, files: &[Listed<u8>]) -> Result<Catalogue, Refusal>
+    ensures reads { IsOutcome (catalogues files.now) result }
     ensures keeps_rules { IfOk result IsCatalogue }
 {
-    accept(FileKind::Catalogue, read_catalogue(alloc, bytes))
+    accept(
+        FileKind::Catalogue,
+        read_catalogue(alloc, bytes_at(files, 3)),
+    )
 }
 
 // All of them, if the catalogue fits.
@@ -48,21 +53,15 @@ fn fitted(setup: Setup, plan: Plan, catalogue: Catalogue) -> Result<Supply, Refu
     }
 }
 
-/// What the bytes of a dieline, of a job, of a plan and of a catalogue give. After those of setting up,
-/// faults are looked for in this order: the text of the plan, the text of the catalogue, and that it
-/// fits.
-pub fn supply_from(
-    alloc: Global,
-    dieline: &[u8],
-    job: &[u8],
-    plan: &[u8],
-    catalogue: &[u8],
-) -> Result<Supply, Refusal>
-    ensures supplies { IsOutcome (supplies dieline.now job.now plan.now catalogue.now) result }
+/// What the bytes of the first four files, a dieline, a job, a plan and a catalogue, give. After those of
+/// setting up, faults are looked for in this order: the text of the plan, the text of the catalogue, and
+/// that it fits.
+pub fn supply_from(alloc: Global, files: &[Listed<u8>]) -> Result<Supply, Refusal>
+    ensures supplies { IsOutcome (supplies files.now) result }
     ensures keeps_rules { IfOk result IsFitted }
 {
-    let setup = set_up(alloc, dieline, job)?;
-    let plan = plan_in(alloc, plan)?;
-    let catalogue = catalogue_in(alloc, catalogue)?;
+    let setup = set_up(alloc, files)?;
+    let plan = plan_in(alloc, files)?;
+    let catalogue = catalogue_in(alloc, files)?;
     fitted(setup, plan, catalogue)
 }

@@ -52,15 +52,15 @@ told_saying holds had words files said dieline job d j are is command e f =
 
 -- a best plan of the bytes, with this spelling
 abbrev Tells : List ℕ → List ℕ → List ℕ → Type 0
-Tells d j text = (s : Setup) × (plan : Plan) × setups d j (Ok s) × IsBest s plan × (text ≡ spelling plan)
+Tells d j text = (s : Setup) × (plan : Plan) × setups (d ∷ j ∷ []) (Ok s) × IsBest s plan × (text ≡ spelling plan)
 
 same_ending : (a b : Ending) → Told a ≡ Told b → a ≡ b
 same_ending a b e = cc
 
-best_outcome : (d j : List ℕ) (said : Said) (outcome : Result ToldText BadFile) → tells_plan d j outcome → said ≡ says outcome → said.ended ≡ Told ToldDone → Tells d j said.text
+best_outcome : (d j : List ℕ) (said : Said) (outcome : Result ToldText BadFile) → tells_plan (d ∷ j ∷ []) outcome → said ≡ says outcome → said.ended ≡ Told ToldDone → Tells d j said.text
 best_outcome d j said (Ok told) h is done =
     let ended = ap (λ (s : Said). s.ended) is in
-    let best = tells_best d j told h (same_ending told.ending ToldDone (sym ended ∙ done)) in
+    let best = tells_best (d ∷ j ∷ []) told h (same_ending told.ending ToldDone (sym ended ∙ done)) in
     (best.0, best.1, best.2, best.3, ap (λ (s : Said). s.text) is ∙ best.4)
 best_outcome d j said (Err file) h is done = let ended = ap (λ (s : Said). s.ended) is in absurd (cc)
 
@@ -100,9 +100,9 @@ none_long dieline job d j kind short few e =
     let none : first_long (dieline_and_job dieline job) (d ∷ j ∷ []) ≡ None = short_here dieline_file (job_file ∷ []) d (j ∷ []) short ∙ short_here job_file [] j [] few in
     cc
 
-found_outcome : (d j : List ℕ) (said : Said) (outcome : Result ToldText BadFile) → IsInReach d j → tells_plan d j outcome → said ≡ says outcome → status_of said.ended ≡ Done
+found_outcome : (d j : List ℕ) (said : Said) (outcome : Result ToldText BadFile) → IsInReach d j → tells_plan (d ∷ j ∷ []) outcome → said ≡ says outcome → status_of said.ended ≡ Done
 found_outcome d j said outcome reach h is =
-    let told = done_in_reach d j reach.0 outcome reach.1 reach.2 h in
+    let told = done_in_reach (d ∷ j ∷ []) reach.0 outcome reach.1 reach.2 h in
     ap (λ (s : Said). status_of s.ended) (is ∙ ap says told.1) ∙ ap (λ e. status_of (Told e)) told.2
 
 found_saying : (dieline job d j : List ℕ) (said : Said) → AreAccepted d j → IsInReach d j → IsSaidTo (asked_plan dieline job) (d ∷ j ∷ []) said → status_of said.ended ≡ Done

@@ -13,7 +13,7 @@ use Rattle.carton_setup.specs.declared.told.Told.{Told as ToldText}
 use Rattle.carton_tool.proofs.Answering.{own_saying}
 use Rattle.carton_tool.proofs.Ends.{is_done}
 use Rattle.carton_tool.specs.Answers.{tells}
-use Rattle.carton_tool.specs.Files.{AreTold, first_long, file_at}
+use Rattle.carton_tool.specs.Files.{AreTold, first_long}
 use Rattle.carton_tool.specs.Headline.{asks, and_plan, IsOfSound, TellsMade}
 use Rattle.carton_tool.specs.Saying.{status_of, says, IsSaidOf, IsSaidTo, IsSaid, AreFiles}
 use Rattle.carton_tool.specs.declared.said.Ended.TheVariants.{Told}
@@ -25,50 +25,51 @@ use Rattle.carton_words.specs.declared.kinds.FileKind.{FileKind}
 use Rattle.carton_words.specs.declared.table.Verb.TheVariants.{Check, Clearance, Make}
 
 -- the three files that are told
-sound_files : (holds : List ℕ → Option (List ℕ)) (dieline job plan d j p : List ℕ) (files : List (List ℕ)) → holds dieline ≡ Some d → holds job ≡ Some j → holds plan ≡ Some p
-    → AreTold holds (and_plan dieline job plan) files → AreSound (file_at 0 files) (file_at 1 files) (file_at 2 files) → AreSound d j p
-sound_files holds dieline job plan d j p [] e f g told h = absurd told
-sound_files holds dieline job plan d j p (a ∷ []) e f g told h = absurd told.1
-sound_files holds dieline job plan d j p (a ∷ b ∷ []) e f g told h = absurd told.1.1
-sound_files holds dieline job plan d j p (a ∷ b ∷ c ∷ others) e f g told h =
-    let first = subst (λ o. IfSome o (λ bytes. a ≡ bytes)) e told.0 in
-    let second = subst (λ o. IfSome o (λ bytes. b ≡ bytes)) f told.1.0 in
-    let third = subst (λ o. IfSome o (λ bytes. c ≡ bytes)) g told.1.1.0 in
-    subst (λ x. AreSound x j p) first (subst (λ y. AreSound a y p) second (subst (λ z. AreSound a b z) third h))
+three_files : (holds : List ℕ → Option (List ℕ)) (dieline job plan d j p : List ℕ) (files : List (List ℕ)) → holds dieline ≡ Some d → holds job ≡ Some j → holds plan ≡ Some p
+    → AreTold holds (and_plan dieline job plan) files → files ≡ d ∷ j ∷ p ∷ []
+three_files holds dieline job plan d j p [] e f g told = absurd told
+three_files holds dieline job plan d j p (a ∷ []) e f g told = absurd told.1
+three_files holds dieline job plan d j p (a ∷ b ∷ []) e f g told = absurd told.1.1
+three_files holds dieline job plan d j p (a ∷ b ∷ c ∷ more ∷ others) e f g told = absurd told.1.1.1
+three_files holds dieline job plan d j p (a ∷ b ∷ c ∷ []) e f g told =
+    let first : a ≡ d = subst (λ o. IfSome o (λ bytes. a ≡ bytes)) e told.0 in
+    let second : b ≡ j = subst (λ o. IfSome o (λ bytes. b ≡ bytes)) f told.1.0 in
+    let third : c ≡ p = subst (λ o. IfSome o (λ bytes. c ≡ bytes)) g told.1.1.0 in
+    λ i. first i ∷ second i ∷ third i ∷ []
 
 -- a command of which done is told only where the plan is sound
 abbrev IsOnlySound : Command → Type 0
-IsOnlySound c = (files : List (List ℕ)) (told : ToldText) → tells c files (Ok told) → IsDoneOfSound (file_at 0 files) (file_at 1 files) (file_at 2 files) told
+IsOnlySound c = (files : List (List ℕ)) (told : ToldText) → tells c files (Ok told) → IsDoneOfSound files told
 
 same_ending : (a b : Ending) → Told a ≡ Told b → a ≡ b
 same_ending a b e = cc
 
 sound_outcome : (c : Command) (files : List (List ℕ)) (said : Said) (outcome : Result ToldText BadFile) → IsOnlySound c → tells c files outcome → said ≡ says outcome → said.ended ≡ Told ToldDone
-    → AreSound (file_at 0 files) (file_at 1 files) (file_at 2 files)
+    → AreSound files
 sound_outcome c files said (Ok told) only t is done =
     let ended = ap (λ (s : Said). s.ended) is in
     only files told t (same_ending told.ending ToldDone (sym ended ∙ done))
 sound_outcome c files said (Err file) only t is done = let ended = ap (λ (s : Said). s.ended) is in absurd (cc)
 
-sound_saying : (c : Command) (files : List (List ℕ)) (said : Said) → IsOnlySound c → IsSaidTo c files said → said.ended ≡ Told ToldDone → AreSound (file_at 0 files) (file_at 1 files) (file_at 2 files)
+sound_saying : (c : Command) (files : List (List ℕ)) (said : Said) → IsOnlySound c → IsSaidTo c files said → said.ended ≡ Told ToldDone → AreSound files
 sound_saying c files said only h done = by_length (first_long (files_of c) files) h.1
   where
-    by_length : (first : Option FileKind) → MatchOption first (IsSaidOf c files said) (λ kind. said ≡ says (Err (record { kind = kind; rule = TooLong }))) → AreSound (file_at 0 files) (file_at 1 files) (file_at 2 files)
+    by_length : (first : Option FileKind) → MatchOption first (IsSaidOf c files said) (λ kind. said ≡ says (Err (record { kind = kind; rule = TooLong }))) → AreSound files
     by_length (Some kind) is = let ended = ap (λ (s : Said). s.ended) is in absurd (cc)
     by_length None is = sound_outcome c files said is.0 only is.1 is.2 done
 
 sound_command : (holds : List ℕ → Option (List ℕ)) (had : ℕ) (words files : List (List ℕ)) (said : Said) (c : Command) (dieline job plan d j p : List ℕ)
     → AreFiles holds had words files → IsSaid words files said → status_of said.ended ≡ Done → IsOnlySound c → files_of c ≡ and_plan dieline job plan
-    → IsCommand words c → holds dieline ≡ Some d → holds job ≡ Some j → holds plan ≡ Some p → AreSound d j p
+    → IsCommand words c → holds dieline ≡ Some d → holds job ≡ Some j → holds plan ≡ Some p → AreSound (d ∷ j ∷ p ∷ [])
 sound_command holds had words files said c dieline job plan d j p are is done only names command e f g =
-    sound_files holds dieline job plan d j p files e f g (subst (λ ns. AreTold holds ns files) names (are.told c command))
+    subst AreSound (three_files holds dieline job plan d j p files e f g (subst (λ ns. AreTold holds ns files) names (are.told c command)))
     (sound_saying c files said only (own_saying words files c said command is) (is_done said.ended done))
 
 -- where done is told, the bytes of the files are those of a sound plan
 pub sound_where_done : (holds : List ℕ → Option (List ℕ)) (had : ℕ) (words files : List (List ℕ)) (said : Said) → AreFiles holds had words files → IsSaid words files said → status_of said.ended ≡ Done → IsOfSound holds words
 sound_where_done holds had words files said are is done = λ dieline job plan d j p ask e f g. elim ask [
-  | inl command ↦ sound_command holds had words files said (asks Check (and_plan dieline job plan)) dieline job plan d j p are is done (λ fs told t. sound_check (file_at 0 fs) (file_at 1 fs) (file_at 2 fs) told t) refl command e f g
-  | inr command ↦ sound_command holds had words files said (asks Clearance (and_plan dieline job plan)) dieline job plan d j p are is done (λ fs told t. sound_clearance (file_at 0 fs) (file_at 1 fs) (file_at 2 fs) told t) refl command e f g
+  | inl command ↦ sound_command holds had words files said (asks Check (and_plan dieline job plan)) dieline job plan d j p are is done sound_check refl command e f g
+  | inr command ↦ sound_command holds had words files said (asks Clearance (and_plan dieline job plan)) dieline job plan d j p are is done sound_clearance refl command e f g
 ]
 
 -- what `make` tells is a made text

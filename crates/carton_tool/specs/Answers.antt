@@ -10,21 +10,20 @@ use Rattle.carton_plan_commands.specs.Plan.{tells_plan}
 use Rattle.carton_plan_commands.specs.Pose.{tells_pose}
 use Rattle.carton_setup.specs.Outcomes.{Outcomes}
 use Rattle.carton_setup.specs.declared.told.Told.{Told}
-use Rattle.carton_tool.specs.Files.{file_at}
 use Rattle.carton_words.specs.Commands.{Command, margin_of, end_of, count_of}
 use Rattle.carton_words.specs.declared.table.Verb.{Verb}
 use Rattle.carton_words.specs.declared.table.Verb.TheVariants.{Flat, Pose, Plan, Check, Clearance, Make, Fixture, Verify}
 
 -- what a command of this verb may tell, where none of its files is too long
 abbrev pub tells_by : Verb → Command → List (List ℕ) → Outcomes Told
-tells_by Flat c files = tells_flat (margin_of c) (file_at 0 files)
-tells_by Pose c files = tells_pose (end_of c) (file_at 0 files) (file_at 1 files)
-tells_by Plan c files = tells_plan (file_at 0 files) (file_at 1 files)
-tells_by Check c files = tells_check (file_at 0 files) (file_at 1 files) (file_at 2 files)
-tells_by Clearance c files = tells_clearance (file_at 0 files) (file_at 1 files) (file_at 2 files)
-tells_by Make c files = tells_make (count_of c)
-tells_by Fixture c files = tells_fixture (file_at 0 files) (file_at 1 files) (file_at 2 files) (file_at 3 files)
-tells_by Verify c files = tells_verify (file_at 0 files) (file_at 1 files) (file_at 2 files) (file_at 3 files) (file_at 4 files)
+tells_by Flat c = tells_flat (margin_of c)
+tells_by Pose c = tells_pose (end_of c)
+tells_by Plan c = tells_plan
+tells_by Check c = tells_check
+tells_by Clearance c = tells_clearance
+tells_by Make c = λ files. tells_make (count_of c)
+tells_by Fixture c = tells_fixture
+tells_by Verify c = tells_verify
 
 abbrev pub tells : Command → List (List ℕ) → Outcomes Told
 tells c files = tells_by c.verb c files

@@ -1,5 +1,5 @@
 -- The files that a command names, and what was read of them.
-use Rattle.std.specs.Prelude.{◌≡◌, ◌⊎◌, ⊤, ℕ, ◌<◌, ◌≤◌, nat_lt, List, [], ◌∷◌, length, Option, Some, None, IfSome, MatchOption, slice_index_or, if◌then◌else◌}
+use Rattle.std.specs.Prelude.{◌≡◌, ◌⊎◌, ⊤, ℕ, ◌<◌, ◌≤◌, nat_lt, List, [], ◌∷◌, length, Option, Some, None, IfSome, MatchOption, if◌then◌else◌}
 use Rattle.carton_words.specs.Kinds.{Named, most_bytes}
 use Rattle.carton_words.specs.declared.kinds.FileKind.{FileKind}
 
@@ -35,7 +35,3 @@ Reaches holds (f ∷ named) name = (f.name ≡ name) ⊎ (IfSome (holds f.name) 
 abbrev pub IsReached : (List ℕ → Option (List ℕ)) → List Named → Option (List ℕ) → Type 0
 IsReached holds named None = ⊥
 IsReached holds named (Some name) = Reaches holds named name
-
--- the bytes of the file at a place
-abbrev pub file_at : ℕ → List (List ℕ) → List ℕ
-file_at place files = slice_index_or files place []

@@ -43,7 +43,7 @@ HasFewestMoves s plan = (path : List State) → IsSlackPath s.task s.carton path
 
 -- the bytes are those of a carton and of a task on it, exactly the one spelling of a plan was written, and P holds of them and the plan
 abbrev pub IsToldPlan : List ℕ → List ℕ → (List ℕ → Type 0) → (Setup → Plan → Type 0) → Type 0
-IsToldPlan d j wrote P = (s : Setup) × (plan : Plan) × setups d j (Ok s) × IsPlan plan × wrote (spelling plan) × P s plan
+IsToldPlan d j wrote P = (s : Setup) × (plan : Plan) × setups (d ∷ j ∷ []) (Ok s) × IsPlan plan × wrote (spelling plan) × P s plan
 
 -- if the words are `plan DIELINE JOB`, then of the bytes that are told of the two files a plan is written of which P holds
 abbrev pub TellsPlanWith : (List ℕ → Option (List ℕ)) → List (List ℕ) → (List ℕ → Type 0) → (Setup → Plan → Type 0) → Type 0
@@ -55,7 +55,7 @@ pub record AreAccepted (d j : List ℕ) : Type 0 where
   pub short_dieline : length d ≤ MOST_BYTES
   pub short_job : length j ≤ MOST_BYTES
   pub setup : Setup
-  pub sets_up : setups d j (Ok setup)
+  pub sets_up : setups (d ∷ j ∷ []) (Ok setup)
 
 -- some path of the task keeps all panels that share no crease parted by more than the slack, and its moves are within the budget of turns
 abbrev pub HasNearPath : Setup → Type 0
@@ -63,7 +63,7 @@ HasNearPath s = (path : List State) × IsSlackPath s.task s.carton path × IsWit
 
 -- so it is for a carton and a task of the bytes
 abbrev pub IsInReach : List ℕ → List ℕ → Type 0
-IsInReach d j = (s : Setup) × setups d j (Ok s) × HasNearPath s
+IsInReach d j = (s : Setup) × setups (d ∷ j ∷ []) (Ok s) × HasNearPath s
 
 -- a plan was told, but for want of memory and faults of the shelf and of the sink
 abbrev pub IsToldOrFault : Status → Type 0
@@ -81,7 +81,7 @@ AskOfPlan words dieline job plan = IsCommand words (asks Check (and_plan dieline
 -- if the words ask of a plan, the bytes that are told of the three files are those of a carton, of a task on it, and of a plan that is sound for them
 abbrev pub IsOfSound : (List ℕ → Option (List ℕ)) → List (List ℕ) → Type 0
 IsOfSound holds words = (dieline job plan d j p : List ℕ) → AskOfPlan words dieline job plan
-    → holds dieline ≡ Some d → holds job ≡ Some j → holds plan ≡ Some p → AreSound d j p
+    → holds dieline ≡ Some d → holds job ≡ Some j → holds plan ≡ Some p → AreSound (d ∷ j ∷ p ∷ [])
 
 -- if the words are `make N`, exactly the text of what may come of the numbers below N is written
 abbrev pub TellsMade : List (List ℕ) → (List ℕ → Type 0) → Type 0

@@ -1,6 +1,6 @@
 ghost use Rattle.std.specs.Prelude.{◌≡◌, ℕ, ◌≤◌, List, map, IfOk, IfErr, IfSome, IsErrOf};
 ghost use Rattle.carton_io.specs.Told.{raised};
-ghost use Rattle.carton_tool.specs.Files.{IsReached, file_at};
+ghost use Rattle.carton_tool.specs.Files.{IsReached};
 ghost use Rattle.carton_tool.specs.Reading.{AreAllRead, IsUnread};
 ghost use Rattle.carton_tool.specs.declared.files.Unread.TheVariants.{NoMemory};
 ghost use Rattle.carton_words.specs.Asked.{named};
@@ -58,14 +58,4 @@ pub fn read_all<S: Shelf>(
         }
     }
     Ok(files)
-}
-
-/// The bytes of the file at a place; none where there is no such file.
-pub fn bytes_at(files: &[Listed<u8>], place: usize) -> &[u8]
-    ensures { result.now ≡ file_at place files.now }
-{
-    match files.get(place) {
-        Some(file) => file.as_slice(),
-        None => &[],
-    }
 }

@@ -4,7 +4,6 @@ ghost use Rattle.carton_tool.specs.Answers.{tells};
 ghost use Rattle.carton_words.specs.Asked.{asked};
 ghost use Rattle.carton_words.specs.Commands.{IsCommand};
 
-use crate::files::bytes_at;
 use carton_base::Listed;
 use carton_fixture_commands::{tell_fixture, tell_verify};
 use carton_plan_commands::{
@@ -20,36 +19,13 @@ pub fn tell(alloc: Global, command: &Asked<'_>, files: &[Listed<u8>]) -> Result<
     ensures { IsOutcome (tells (asked command.now) files.now) result }
 {
     match command.verb {
-        Verb::Flat => tell_flat(alloc, bytes_at(files, 0), command.margin()),
-        Verb::Pose => tell_pose(alloc, bytes_at(files, 0), bytes_at(files, 1), command.end()),
-        Verb::Plan => tell_plan(alloc, bytes_at(files, 0), bytes_at(files, 1)),
-        Verb::Check => tell_check(
-            alloc,
-            bytes_at(files, 0),
-            bytes_at(files, 1),
-            bytes_at(files, 2),
-        ),
-        Verb::Clearance => tell_clearance(
-            alloc,
-            bytes_at(files, 0),
-            bytes_at(files, 1),
-            bytes_at(files, 2),
-        ),
+        Verb::Flat => tell_flat(alloc, files, command.margin()),
+        Verb::Pose => tell_pose(alloc, files, command.end()),
+        Verb::Plan => tell_plan(alloc, files),
+        Verb::Check => tell_check(alloc, files),
+        Verb::Clearance => tell_clearance(alloc, files),
         Verb::Make => tell_make(alloc, command.count()),
-        Verb::Fixture => tell_fixture(
-            alloc,
-            bytes_at(files, 0),
-            bytes_at(files, 1),
-            bytes_at(files, 2),
-            bytes_at(files, 3),
-        ),
-        Verb::Verify => tell_verify(
-            alloc,
-            bytes_at(files, 0),
-            bytes_at(files, 1),
-            bytes_at(files, 2),
-            bytes_at(files, 3),
-            bytes_at(files, 4),
-        ),
+        Verb::Fixture => tell_fixture(alloc, files),
+        Verb::Verify => tell_verify(alloc, files),
     }
 }

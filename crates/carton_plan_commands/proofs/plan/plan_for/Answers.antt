@@ -9,13 +9,11 @@ use Rattle.carton_plan_commands.proofs.plan.plan_for.Goals as goal
 pub returns-in_err-setup-clause-planned : goal.returns-in_err-setup-clause-planned
 returns-in_err-setup-clause-planned c =
     let p = err_from_is_err_and c.from_residual.result c.from_residual.ensures.1 in
-    let dieline = c.args.dieline.now in
-    let job = c.args.job.now in
+    let files = c.args.files.now in
     let e = c.in_err-setup.field-0.0 in
-    rw (p.1, p.2) (stops (setups dieline job) (λ (s : Setup). values (IsPlanned s)) e c.in_err-setup.ensures.sets_up)
+    rw (p.1, p.2) (stops (setups files) (λ (s : Setup). values (IsPlanned s)) e c.in_err-setup.ensures.sets_up)
 
 pub returns-clause-planned : goal.returns-clause-planned
 returns-clause-planned c =
-    let dieline = c.args.dieline.now in
-    let job = c.args.job.now in
-    goes_on (setups dieline job) (λ (s : Setup). values (IsPlanned s)) c.in_ok-setup.setup c.planned_for.result c.in_ok-setup.ensures.sets_up c.planned_for.ensures.planned
+    let files = c.args.files.now in
+    goes_on (setups files) (λ (s : Setup). values (IsPlanned s)) c.in_ok-setup.setup c.planned_for.result c.in_ok-setup.ensures.sets_up c.planned_for.ensures.planned
