@@ -11,7 +11,9 @@ directions = DIRECTIONS
 abbrev pub part : List ℤ → ℕ → ℤ
 part l k = get_or l k (pos 0)
 
-pub listed_direction : (k : ℕ) (d : List ℤ) → k < 26 → IsDirection (part (get_or directions k d) 0) (part (get_or directions k d) 1) (part (get_or directions k d) 2)
+pub listed_direction : (k : ℕ) (d : List ℤ) → k < 26
+    → IsDirection (part (get_or directions k d) 0) (part (get_or directions k d) 1) (part
+    (get_or directions k d) 2)
 listed_direction k d h = each_direction DIRECTIONS refl k d h
 
 pub direction_stands : (u v t : ℤ) → IsDirection u v t → Contains directions (u ∷ v ∷ t ∷ [])

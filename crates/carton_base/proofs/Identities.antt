@@ -1,5 +1,6 @@
 -- Identities between polynomials of integers, decided by computing.
-use Rattle.std.proofs.Common.{◌≡◌, ℕ, zero, suc, ℤ, pos, negsuc, ◌+ℤ◌, ◌-ℤ◌, ◌*ℤ◌, neg_ℤ, arith, ap, sym, ◌∙◌, Bool, true, false, cond, ◌&&◌, eqb, ltb, eqb-true, List, [], ◌∷◌, refl}
+use Rattle.std.proofs.Common.{◌≡◌, ℕ, zero, suc, ℤ, pos, negsuc, ◌+ℤ◌, ◌-ℤ◌, ◌*ℤ◌, neg_ℤ, arith, ap, sym, ◌∙◌}
+use Rattle.std.proofs.Common.{Bool, true, false, cond, ◌&&◌, eqb, ltb, eqb-true, List, [], ◌∷◌, refl}
 use Rattle.std.proofs.lemmas.Int.{ints}
 use Rattle.carton_base.proofs.Products.{mul_add_right, mul_assoc_ℤ, mul_comm_ℤ}
 
@@ -58,7 +59,9 @@ are_same (v ∷ vs) (u ∷ us) = eqb v u && are_same vs us
 
 abbrev pub add_mono : Mono → List Mono → List Mono
 add_mono m [] = m ∷ []
-add_mono m (n ∷ ns) = cond (are_same m.vars n.vars) (record { factor = m.factor +ℤ n.factor; vars = n.vars } ∷ ns) (n ∷ add_mono m ns)
+add_mono m (n ∷ ns) =
+    cond (are_same m.vars n.vars) (record { factor = m.factor +ℤ n.factor; vars = n.vars } ∷ ns)
+    (n ∷ add_mono m ns)
 
 abbrev pub add_all : List Mono → List Mono → List Mono
 add_all [] ns = ns
@@ -66,7 +69,8 @@ add_all (m ∷ ms) ns = add_mono m (add_all ms ns)
 
 abbrev pub scale : Mono → List Mono → List Mono
 scale m [] = []
-scale m (n ∷ ns) = add_mono (record { factor = m.factor *ℤ n.factor; vars = join_vars m.vars n.vars }) (scale m ns)
+scale m (n ∷ ns) = add_mono (record { factor = m.factor *ℤ n.factor; vars = join_vars m.vars n.vars })
+    (scale m ns)
 
 abbrev pub multiply : List Mono → List Mono → List Mono
 multiply [] ns = []
@@ -106,7 +110,9 @@ swap_front a b c = sym (mul_assoc_ℤ a b c) ∙ ap (λ z. z *ℤ c) (mul_comm_�
 
 insert_is : (xs : List ℤ) (v : ℕ) (us : List ℕ) → product xs (insert_var v us) ≡ look xs v *ℤ product xs us
 insert_is xs v [] = refl
-insert_is xs v (u ∷ us) = pick (λ r. product xs r ≡ look xs v *ℤ (look xs u *ℤ product xs us)) (ltb u v) (u ∷ insert_var v us) (v ∷ u ∷ us) (λ e. ap (λ z. look xs u *ℤ z) (insert_is xs v us) ∙ swap_front (look xs u) (look xs v) (product xs us)) refl
+insert_is xs v (u ∷ us) = pick (λ r. product xs r ≡ look xs v *ℤ (look xs u *ℤ product xs us)) (ltb u v)
+    (u ∷ insert_var v us) (v ∷ u ∷ us) (λ e. ap (λ z. look xs u *ℤ z) (insert_is xs v us)
+    ∙ swap_front (look xs u) (look xs v) (product xs us)) refl
 
 one_times : (z : ℤ) → pos 1 *ℤ z ≡ z
 one_times z = omega (arith, ints)
@@ -119,19 +125,26 @@ less_times z = omega (arith, ints)
 
 join_is : (xs : List ℤ) (vs us : List ℕ) → product xs (join_vars vs us) ≡ product xs vs *ℤ product xs us
 join_is xs [] us = sym (one_times (product xs us))
-join_is xs (v ∷ vs) us = insert_is xs v (join_vars vs us) ∙ ap (λ z. look xs v *ℤ z) (join_is xs vs us) ∙ sym (mul_assoc_ℤ (look xs v) (product xs vs) (product xs us))
+join_is xs (v ∷ vs) us = insert_is xs v (join_vars vs us) ∙ ap (λ z. look xs v *ℤ z) (join_is xs vs us)
+    ∙ sym (mul_assoc_ℤ (look xs v) (product xs vs) (product xs us))
 
 same_is : (vs us : List ℕ) → are_same vs us ≡ true → vs ≡ us
 same_is [] [] e = refl
 same_is [] (u ∷ us) e = absurd (cc)
 same_is (v ∷ vs) [] e = absurd (cc)
-same_is (v ∷ vs) (u ∷ us) e = let b = both (eqb v u) (are_same vs us) e in ap (λ z. z ∷ vs) (eqb-true v u b.0) ∙ ap (λ z. u ∷ z) (same_is vs us b.1)
+same_is (v ∷ vs) (u ∷ us) e = let b = both (eqb v u) (are_same vs us) e in ap (λ z. z ∷ vs) (eqb-true v u b.0)
+    ∙ ap (λ z. u ∷ z) (same_is vs us b.1)
 
-add_is : (xs : List ℤ) (m : Mono) (ns : List Mono) → total xs (add_mono m ns) ≡ m.factor *ℤ product xs m.vars +ℤ total xs ns
+add_is : (xs : List ℤ) (m : Mono) (ns : List Mono) → total xs (add_mono m ns) ≡ m.factor *ℤ product xs m.vars
+    +ℤ total xs ns
 add_is xs m [] = refl
-add_is xs m (n ∷ ns) = pick (λ r. total xs r ≡ m.factor *ℤ product xs m.vars +ℤ total xs (n ∷ ns)) (are_same m.vars n.vars) (record { factor = m.factor +ℤ n.factor; vars = n.vars } ∷ ns) (n ∷ add_mono m ns)
-    (λ e. let s : product xs m.vars ≡ product xs n.vars = ap (product xs) (same_is m.vars n.vars e) in rw s (together m.factor n.factor (product xs n.vars) (total xs ns)))
-    (later (n.factor *ℤ product xs n.vars) (total xs (add_mono m ns)) (m.factor *ℤ product xs m.vars) (total xs ns) (add_is xs m ns))
+add_is xs m (n ∷ ns) = pick (λ r. total xs r ≡ m.factor *ℤ product xs m.vars +ℤ total xs (n ∷ ns))
+    (are_same m.vars n.vars) (record { factor = m.factor +ℤ n.factor; vars = n.vars } ∷ ns)
+    (n ∷ add_mono m ns)
+    (λ e. let s : product xs m.vars ≡ product xs n.vars = ap (product xs) (same_is m.vars n.vars e) in
+    rw s (together m.factor n.factor (product xs n.vars) (total xs ns)))
+    (later (n.factor *ℤ product xs n.vars) (total xs (add_mono m ns)) (m.factor *ℤ product xs m.vars)
+    (total xs ns) (add_is xs m ns))
   where
     together : (a b c d : ℤ) → (a +ℤ b) *ℤ c +ℤ d ≡ a *ℤ c +ℤ (b *ℤ c +ℤ d)
     together a b c d = omega (arith, ints, mul_add_right a b c)
@@ -141,17 +154,25 @@ add_is xs m (n ∷ ns) = pick (λ r. total xs r ≡ m.factor *ℤ product xs m.v
 
 add_all_is : (xs : List ℤ) (ms ns : List Mono) → total xs (add_all ms ns) ≡ total xs ms +ℤ total xs ns
 add_all_is xs [] ns = omega (arith, ints)
-add_all_is xs (m ∷ ms) ns = add_is xs m (add_all ms ns) ∙ regroup (m.factor *ℤ product xs m.vars) (total xs (add_all ms ns)) (total xs ms) (total xs ns) (add_all_is xs ms ns)
+add_all_is xs (m ∷ ms) ns = add_is xs m (add_all ms ns)
+    ∙ regroup (m.factor *ℤ product xs m.vars) (total xs (add_all ms ns)) (total xs ms) (total xs ns)
+    (add_all_is xs ms ns)
   where
     regroup : (a b c d : ℤ) → b ≡ c +ℤ d → a +ℤ b ≡ (a +ℤ c) +ℤ d
     regroup a b c d e = omega (arith, ints, e)
 
-scale_is : (xs : List ℤ) (m : Mono) (ns : List Mono) → total xs (scale m ns) ≡ (m.factor *ℤ product xs m.vars) *ℤ total xs ns
+scale_is : (xs : List ℤ) (m : Mono) (ns : List Mono) → total xs (scale m ns)
+    ≡ (m.factor *ℤ product xs m.vars) *ℤ total xs ns
 scale_is xs m [] = omega (arith, ints)
-scale_is xs m (n ∷ ns) = add_is xs (record { factor = m.factor *ℤ n.factor; vars = join_vars m.vars n.vars }) (scale m ns) ∙ ap (λ z. (m.factor *ℤ n.factor) *ℤ z +ℤ total xs (scale m ns)) (join_is xs m.vars n.vars) ∙ ap (λ z. (m.factor *ℤ n.factor) *ℤ (product xs m.vars *ℤ product xs n.vars) +ℤ z) (scale_is xs m ns) ∙ mixed m.factor n.factor (product xs m.vars) (product xs n.vars) (total xs ns)
+scale_is xs m (n ∷ ns) =
+    add_is xs (record { factor = m.factor *ℤ n.factor; vars = join_vars m.vars n.vars }) (scale m ns)
+    ∙ ap (λ z. (m.factor *ℤ n.factor) *ℤ z +ℤ total xs (scale m ns)) (join_is xs m.vars n.vars)
+    ∙ ap (λ z. (m.factor *ℤ n.factor) *ℤ (product xs m.vars *ℤ product xs n.vars) +ℤ z) (scale_is xs m ns)
+    ∙ mixed m.factor n.factor (product xs m.vars) (product xs n.vars) (total xs ns)
   where
     crossed : (a b c d : ℤ) → (a *ℤ b) *ℤ (c *ℤ d) ≡ (a *ℤ c) *ℤ (b *ℤ d)
-    crossed a b c d = mul_assoc_ℤ a b (c *ℤ d) ∙ ap (λ z. a *ℤ z) (swap_front b c d) ∙ sym (mul_assoc_ℤ a c (b *ℤ d))
+    crossed a b c d = mul_assoc_ℤ a b (c *ℤ d) ∙ ap (λ z. a *ℤ z) (swap_front b c d)
+        ∙ sym (mul_assoc_ℤ a c (b *ℤ d))
 
     mixed : (a b c d t : ℤ) → (a *ℤ b) *ℤ (c *ℤ d) +ℤ (a *ℤ c) *ℤ t ≡ (a *ℤ c) *ℤ (b *ℤ d +ℤ t)
     mixed a b c d t = ap (λ z. z +ℤ (a *ℤ c) *ℤ t) (crossed a b c d) ∙ spread (a *ℤ c) (b *ℤ d) t
@@ -161,7 +182,10 @@ scale_is xs m (n ∷ ns) = add_is xs (record { factor = m.factor *ℤ n.factor; 
 
 multiply_is : (xs : List ℤ) (ms ns : List Mono) → total xs (multiply ms ns) ≡ total xs ms *ℤ total xs ns
 multiply_is xs [] ns = sym (nought_times (total xs ns))
-multiply_is xs (m ∷ ms) ns = add_all_is xs (scale m ns) (multiply ms ns) ∙ ap (λ z. z +ℤ total xs (multiply ms ns)) (scale_is xs m ns) ∙ ap (λ z. (m.factor *ℤ product xs m.vars) *ℤ total xs ns +ℤ z) (multiply_is xs ms ns) ∙ sym (mul_add_right (m.factor *ℤ product xs m.vars) (total xs ms) (total xs ns))
+multiply_is xs (m ∷ ms) ns = add_all_is xs (scale m ns) (multiply ms ns)
+    ∙ ap (λ z. z +ℤ total xs (multiply ms ns)) (scale_is xs m ns)
+    ∙ ap (λ z. (m.factor *ℤ product xs m.vars) *ℤ total xs ns +ℤ z) (multiply_is xs ms ns)
+    ∙ sym (mul_add_right (m.factor *ℤ product xs m.vars) (total xs ms) (total xs ns))
 
 expand_is : (xs : List ℤ) (p : Poly) → total xs (expand p) ≡ value xs p
 expand_is xs (at n) = plain (look xs n)
@@ -172,10 +196,16 @@ expand_is xs (whole n) = plain (pos n)
   where
     plain : (z : ℤ) → z *ℤ pos 1 +ℤ pos 0 ≡ z
     plain z = omega (arith, ints)
-expand_is xs (less p) = scale_is xs less_one (expand p) ∙ less_times (total xs (expand p)) ∙ ap neg_ℤ (expand_is xs p)
-expand_is xs (p ⊕ q) = add_all_is xs (expand p) (expand q) ∙ ap (λ z. z +ℤ total xs (expand q)) (expand_is xs p) ∙ ap (λ z. value xs p +ℤ z) (expand_is xs q)
-expand_is xs (p ⊖ q) = add_all_is xs (expand p) (scale less_one (expand q)) ∙ ap (λ z. z +ℤ total xs (scale less_one (expand q))) (expand_is xs p) ∙ ap (λ z. value xs p +ℤ z) (scale_is xs less_one (expand q) ∙ less_times (total xs (expand q)) ∙ ap neg_ℤ (expand_is xs q))
-expand_is xs (p ⊗ q) = multiply_is xs (expand p) (expand q) ∙ ap (λ z. z *ℤ total xs (expand q)) (expand_is xs p) ∙ ap (λ z. value xs p *ℤ z) (expand_is xs q)
+expand_is xs (less p) = scale_is xs less_one (expand p) ∙ less_times (total xs (expand p))
+    ∙ ap neg_ℤ (expand_is xs p)
+expand_is xs (p ⊕ q) = add_all_is xs (expand p) (expand q)
+    ∙ ap (λ z. z +ℤ total xs (expand q)) (expand_is xs p) ∙ ap (λ z. value xs p +ℤ z) (expand_is xs q)
+expand_is xs (p ⊖ q) = add_all_is xs (expand p) (scale less_one (expand q))
+    ∙ ap (λ z. z +ℤ total xs (scale less_one (expand q))) (expand_is xs p)
+    ∙ ap (λ z. value xs p +ℤ z) (scale_is xs less_one (expand q) ∙ less_times (total xs (expand q))
+    ∙ ap neg_ℤ (expand_is xs q))
+expand_is xs (p ⊗ q) = multiply_is xs (expand p) (expand q)
+    ∙ ap (λ z. z *ℤ total xs (expand q)) (expand_is xs p) ∙ ap (λ z. value xs p *ℤ z) (expand_is xs q)
 
 nought_is : (z : ℤ) → is_nought z ≡ true → z ≡ pos 0
 nought_is (pos zero) e = refl
@@ -184,7 +214,8 @@ nought_is (negsuc n) e = absurd (cc)
 
 vanish_is : (xs : List ℤ) (ms : List Mono) → vanish ms ≡ true → total xs ms ≡ pos 0
 vanish_is xs [] e = refl
-vanish_is xs (m ∷ ms) e = let b = both (is_nought m.factor) (vanish ms) e in rw (nought_is m.factor b.0, vanish_is xs ms b.1) (nought_plus (product xs m.vars))
+vanish_is xs (m ∷ ms) e = let b = both (is_nought m.factor) (vanish ms) e in
+    rw (nought_is m.factor b.0, vanish_is xs ms b.1) (nought_plus (product xs m.vars))
   where
     nought_plus : (z : ℤ) → pos 0 *ℤ z +ℤ pos 0 ≡ pos 0
     nought_plus z = omega (arith, ints)
@@ -205,41 +236,80 @@ abbrev pub AreEqual : List ℤ → Sides → Type 0
 AreEqual xs s = value xs s.left ≡ value xs s.right
 
 pub equal_at : (xs : List ℤ) (s : Sides) → agree s ≡ true → AreEqual xs s
-equal_at xs s e = from_difference (value xs s.left) (value xs s.right) (sym (expand_is xs (s.left ⊖ s.right)) ∙ vanish_is xs (expand (s.left ⊖ s.right)) e)
+equal_at xs s e = from_difference (value xs s.left) (value xs s.right) (sym (expand_is xs (s.left ⊖ s.right))
+    ∙ vanish_is xs (expand (s.left ⊖ s.right)) e)
   where
     from_difference : (a b : ℤ) → a -ℤ b ≡ pos 0 → a ≡ b
     from_difference a b e = omega (arith, ints, e)
 
 -- the same, where the sides are written as a function of their variables
-pub by2 : (f : Poly → Poly → Sides) → agree (f (at 0) (at 1)) ≡ true → (a b : ℤ) → AreEqual (a ∷ b ∷ []) (f (at 0) (at 1))
+pub by2 : (f : Poly → Poly → Sides) → agree (f (at 0) (at 1)) ≡ true → (a b : ℤ)
+    → AreEqual (a ∷ b ∷ []) (f (at 0) (at 1))
 by2 f e a b = equal_at (a ∷ b ∷ []) (f (at 0) (at 1)) e
 
-pub by3 : (f : Poly → Poly → Poly → Sides) → agree (f (at 0) (at 1) (at 2)) ≡ true → (a b c : ℤ) → AreEqual (a ∷ b ∷ c ∷ []) (f (at 0) (at 1) (at 2))
+pub by3 : (f : Poly → Poly → Poly → Sides) → agree (f (at 0) (at 1) (at 2)) ≡ true → (a b c : ℤ)
+    → AreEqual (a ∷ b ∷ c ∷ []) (f (at 0) (at 1) (at 2))
 by3 f e a b c = equal_at (a ∷ b ∷ c ∷ []) (f (at 0) (at 1) (at 2)) e
 
-pub by4 : (f : Poly → Poly → Poly → Poly → Sides) → agree (f (at 0) (at 1) (at 2) (at 3)) ≡ true → (a b c d : ℤ) → AreEqual (a ∷ b ∷ c ∷ d ∷ []) (f (at 0) (at 1) (at 2) (at 3))
+pub by4 : (f : Poly → Poly → Poly → Poly → Sides) → agree (f (at 0) (at 1) (at 2) (at 3)) ≡ true
+    → (a b c d : ℤ) → AreEqual (a ∷ b ∷ c ∷ d ∷ []) (f (at 0) (at 1) (at 2) (at 3))
 by4 f e a b c d = equal_at (a ∷ b ∷ c ∷ d ∷ []) (f (at 0) (at 1) (at 2) (at 3)) e
 
-pub by5 : (f : Poly → Poly → Poly → Poly → Poly → Sides) → agree (f (at 0) (at 1) (at 2) (at 3) (at 4)) ≡ true → (a b c d g : ℤ) → AreEqual (a ∷ b ∷ c ∷ d ∷ g ∷ []) (f (at 0) (at 1) (at 2) (at 3) (at 4))
+pub by5 : (f : Poly → Poly → Poly → Poly → Poly → Sides) → agree (f (at 0) (at 1) (at 2) (at 3) (at 4)) ≡ true
+    → (a b c d g : ℤ) → AreEqual (a ∷ b ∷ c ∷ d ∷ g ∷ []) (f (at 0) (at 1) (at 2) (at 3) (at 4))
 by5 f e a b c d g = equal_at (a ∷ b ∷ c ∷ d ∷ g ∷ []) (f (at 0) (at 1) (at 2) (at 3) (at 4)) e
 
-pub by6 : (f : Poly → Poly → Poly → Poly → Poly → Poly → Sides) → agree (f (at 0) (at 1) (at 2) (at 3) (at 4) (at 5)) ≡ true → (a b c d g h : ℤ) → AreEqual (a ∷ b ∷ c ∷ d ∷ g ∷ h ∷ []) (f (at 0) (at 1) (at 2) (at 3) (at 4) (at 5))
+pub by6 : (f : Poly → Poly → Poly → Poly → Poly → Poly → Sides)
+    → agree (f (at 0) (at 1) (at 2) (at 3) (at 4) (at 5)) ≡ true → (a b c d g h : ℤ)
+    → AreEqual (a ∷ b ∷ c ∷ d ∷ g ∷ h ∷ []) (f (at 0) (at 1) (at 2) (at 3) (at 4) (at 5))
 by6 f e a b c d g h = equal_at (a ∷ b ∷ c ∷ d ∷ g ∷ h ∷ []) (f (at 0) (at 1) (at 2) (at 3) (at 4) (at 5)) e
 
-pub by7 : (f : Poly → Poly → Poly → Poly → Poly → Poly → Poly → Sides) → agree (f (at 0) (at 1) (at 2) (at 3) (at 4) (at 5) (at 6)) ≡ true → (a b c d g h i : ℤ) → AreEqual (a ∷ b ∷ c ∷ d ∷ g ∷ h ∷ i ∷ []) (f (at 0) (at 1) (at 2) (at 3) (at 4) (at 5) (at 6))
-by7 f e a b c d g h i = equal_at (a ∷ b ∷ c ∷ d ∷ g ∷ h ∷ i ∷ []) (f (at 0) (at 1) (at 2) (at 3) (at 4) (at 5) (at 6)) e
+pub by7 : (f : Poly → Poly → Poly → Poly → Poly → Poly → Poly → Sides)
+    → agree (f (at 0) (at 1) (at 2) (at 3) (at 4) (at 5) (at 6)) ≡ true → (a b c d g h i : ℤ)
+    → AreEqual (a ∷ b ∷ c ∷ d ∷ g ∷ h ∷ i ∷ []) (f (at 0) (at 1) (at 2) (at 3) (at 4) (at 5) (at 6))
+by7 f e a b c d g h i =
+    equal_at (a ∷ b ∷ c ∷ d ∷ g ∷ h ∷ i ∷ []) (f (at 0) (at 1) (at 2) (at 3) (at 4) (at 5) (at 6)) e
 
-pub by8 : (f : Poly → Poly → Poly → Poly → Poly → Poly → Poly → Poly → Sides) → agree (f (at 0) (at 1) (at 2) (at 3) (at 4) (at 5) (at 6) (at 7)) ≡ true → (a b c d g h i j : ℤ) → AreEqual (a ∷ b ∷ c ∷ d ∷ g ∷ h ∷ i ∷ j ∷ []) (f (at 0) (at 1) (at 2) (at 3) (at 4) (at 5) (at 6) (at 7))
-by8 f e a b c d g h i j = equal_at (a ∷ b ∷ c ∷ d ∷ g ∷ h ∷ i ∷ j ∷ []) (f (at 0) (at 1) (at 2) (at 3) (at 4) (at 5) (at 6) (at 7)) e
+pub by8 : (f : Poly → Poly → Poly → Poly → Poly → Poly → Poly → Poly → Sides)
+    → agree (f (at 0) (at 1) (at 2) (at 3) (at 4) (at 5) (at 6) (at 7)) ≡ true → (a b c d g h i j : ℤ)
+    → AreEqual (a ∷ b ∷ c ∷ d ∷ g ∷ h ∷ i ∷ j ∷ []) (f (at 0) (at 1) (at 2) (at 3) (at 4) (at 5) (at 6) (at
+    7))
+by8 f e a b c d g h i j =
+    equal_at (a ∷ b ∷ c ∷ d ∷ g ∷ h ∷ i ∷ j ∷ []) (f (at 0) (at 1) (at 2) (at 3) (at 4) (at 5) (at 6) (at 7))
+    e
 
-pub by9 : (f : Poly → Poly → Poly → Poly → Poly → Poly → Poly → Poly → Poly → Sides) → agree (f (at 0) (at 1) (at 2) (at 3) (at 4) (at 5) (at 6) (at 7) (at 8)) ≡ true → (a b c d g h i j k : ℤ) → AreEqual (a ∷ b ∷ c ∷ d ∷ g ∷ h ∷ i ∷ j ∷ k ∷ []) (f (at 0) (at 1) (at 2) (at 3) (at 4) (at 5) (at 6) (at 7) (at 8))
-by9 f e a b c d g h i j k = equal_at (a ∷ b ∷ c ∷ d ∷ g ∷ h ∷ i ∷ j ∷ k ∷ []) (f (at 0) (at 1) (at 2) (at 3) (at 4) (at 5) (at 6) (at 7) (at 8)) e
+pub by9 : (f : Poly → Poly → Poly → Poly → Poly → Poly → Poly → Poly → Poly → Sides)
+    → agree (f (at 0) (at 1) (at 2) (at 3) (at 4) (at 5) (at 6) (at 7) (at 8)) ≡ true
+    → (a b c d g h i j k : ℤ)
+    → AreEqual (a ∷ b ∷ c ∷ d ∷ g ∷ h ∷ i ∷ j ∷ k
+    ∷ []) (f (at 0) (at 1) (at 2) (at 3) (at 4) (at 5) (at 6) (at 7) (at 8))
+by9 f e a b c d g h i j k =
+    equal_at (a ∷ b ∷ c ∷ d ∷ g ∷ h ∷ i ∷ j ∷ k ∷ [])
+    (f (at 0) (at 1) (at 2) (at 3) (at 4) (at 5) (at 6) (at 7) (at 8)) e
 
-pub by10 : (f : Poly → Poly → Poly → Poly → Poly → Poly → Poly → Poly → Poly → Poly → Sides) → agree (f (at 0) (at 1) (at 2) (at 3) (at 4) (at 5) (at 6) (at 7) (at 8) (at 9)) ≡ true → (a b c d g h i j k l : ℤ) → AreEqual (a ∷ b ∷ c ∷ d ∷ g ∷ h ∷ i ∷ j ∷ k ∷ l ∷ []) (f (at 0) (at 1) (at 2) (at 3) (at 4) (at 5) (at 6) (at 7) (at 8) (at 9))
-by10 f e a b c d g h i j k l = equal_at (a ∷ b ∷ c ∷ d ∷ g ∷ h ∷ i ∷ j ∷ k ∷ l ∷ []) (f (at 0) (at 1) (at 2) (at 3) (at 4) (at 5) (at 6) (at 7) (at 8) (at 9)) e
+pub by10 : (f : Poly → Poly → Poly → Poly → Poly → Poly → Poly → Poly → Poly → Poly → Sides)
+    → agree (f (at 0) (at 1) (at 2) (at 3) (at 4) (at 5) (at 6) (at 7) (at 8) (at 9)) ≡ true
+    → (a b c d g h i j k l : ℤ)
+    → AreEqual (a ∷ b ∷ c ∷ d ∷ g ∷ h ∷ i ∷ j ∷ k ∷ l
+    ∷ []) (f (at 0) (at 1) (at 2) (at 3) (at 4) (at 5) (at 6) (at 7) (at 8) (at 9))
+by10 f e a b c d g h i j k l =
+    equal_at (a ∷ b ∷ c ∷ d ∷ g ∷ h ∷ i ∷ j ∷ k ∷ l ∷ [])
+    (f (at 0) (at 1) (at 2) (at 3) (at 4) (at 5) (at 6) (at 7) (at 8) (at 9)) e
 
-pub by11 : (f : Poly → Poly → Poly → Poly → Poly → Poly → Poly → Poly → Poly → Poly → Poly → Sides) → agree (f (at 0) (at 1) (at 2) (at 3) (at 4) (at 5) (at 6) (at 7) (at 8) (at 9) (at 10)) ≡ true → (a b c d g h i j k l m : ℤ) → AreEqual (a ∷ b ∷ c ∷ d ∷ g ∷ h ∷ i ∷ j ∷ k ∷ l ∷ m ∷ []) (f (at 0) (at 1) (at 2) (at 3) (at 4) (at 5) (at 6) (at 7) (at 8) (at 9) (at 10))
-by11 f e a b c d g h i j k l m = equal_at (a ∷ b ∷ c ∷ d ∷ g ∷ h ∷ i ∷ j ∷ k ∷ l ∷ m ∷ []) (f (at 0) (at 1) (at 2) (at 3) (at 4) (at 5) (at 6) (at 7) (at 8) (at 9) (at 10)) e
+pub by11 : (f : Poly → Poly → Poly → Poly → Poly → Poly → Poly → Poly → Poly → Poly → Poly → Sides)
+    → agree (f (at 0) (at 1) (at 2) (at 3) (at 4) (at 5) (at 6) (at 7) (at 8) (at 9) (at 10)) ≡ true
+    → (a b c d g h i j k l m : ℤ)
+    → AreEqual (a ∷ b ∷ c ∷ d ∷ g ∷ h ∷ i ∷ j ∷ k ∷ l ∷ m
+    ∷ []) (f (at 0) (at 1) (at 2) (at 3) (at 4) (at 5) (at 6) (at 7) (at 8) (at 9) (at 10))
+by11 f e a b c d g h i j k l m =
+    equal_at (a ∷ b ∷ c ∷ d ∷ g ∷ h ∷ i ∷ j ∷ k ∷ l ∷ m ∷ [])
+    (f (at 0) (at 1) (at 2) (at 3) (at 4) (at 5) (at 6) (at 7) (at 8) (at 9) (at 10)) e
 
-pub by12 : (f : Poly → Poly → Poly → Poly → Poly → Poly → Poly → Poly → Poly → Poly → Poly → Poly → Sides) → agree (f (at 0) (at 1) (at 2) (at 3) (at 4) (at 5) (at 6) (at 7) (at 8) (at 9) (at 10) (at 11)) ≡ true → (a b c d g h i j k l m n : ℤ) → AreEqual (a ∷ b ∷ c ∷ d ∷ g ∷ h ∷ i ∷ j ∷ k ∷ l ∷ m ∷ n ∷ []) (f (at 0) (at 1) (at 2) (at 3) (at 4) (at 5) (at 6) (at 7) (at 8) (at 9) (at 10) (at 11))
-by12 f e a b c d g h i j k l m n = equal_at (a ∷ b ∷ c ∷ d ∷ g ∷ h ∷ i ∷ j ∷ k ∷ l ∷ m ∷ n ∷ []) (f (at 0) (at 1) (at 2) (at 3) (at 4) (at 5) (at 6) (at 7) (at 8) (at 9) (at 10) (at 11)) e
+pub by12 : (f : Poly → Poly → Poly → Poly → Poly → Poly → Poly → Poly → Poly → Poly → Poly → Poly → Sides)
+    → agree (f (at 0) (at 1) (at 2) (at 3) (at 4) (at 5) (at 6) (at 7) (at 8) (at 9) (at 10) (at 11)) ≡ true
+    → (a b c d g h i j k l m n : ℤ)
+    → AreEqual (a ∷ b ∷ c ∷ d ∷ g ∷ h ∷ i ∷ j ∷ k ∷ l ∷ m ∷ n
+    ∷ []) (f (at 0) (at 1) (at 2) (at 3) (at 4) (at 5) (at 6) (at 7) (at 8) (at 9) (at 10) (at 11))
+by12 f e a b c d g h i j k l m n =
+    equal_at (a ∷ b ∷ c ∷ d ∷ g ∷ h ∷ i ∷ j ∷ k ∷ l ∷ m ∷ n ∷ [])
+    (f (at 0) (at 1) (at 2) (at 3) (at 4) (at 5) (at 6) (at 7) (at 8) (at 9) (at 10) (at 11)) e

@@ -1,7 +1,8 @@
 -- Polynomials over the integers, laid out as sums of sorted products for `omega`.
 use Rattle.std.proofs.Common.{◌≡◌, ℤ, pos, negsuc, ◌+ℤ◌, ◌-ℤ◌, ◌*ℤ◌, neg_ℤ, ◌≤ℤ◌, ◌<ℤ◌, arith, ap, ◌∙◌, sym}
 use Rattle.std.proofs.lemmas.Int.{ints}
-use Rattle.carton_base.proofs.Products.{mul_add_right, mul_neg_right, mul_assoc_ℤ, mul_comm_ℤ, mul_le_right, le_cancel}
+use Rattle.carton_base.proofs.Products.{mul_add_right, mul_neg_right, mul_assoc_ℤ, mul_comm_ℤ, mul_le_right}
+use Rattle.carton_base.proofs.Products.{le_cancel}
 use borrow.Author.Differences.{same_out, same_in, le_out, lt_out, below_in, at_most_in, sum_is_lem, neg_is}
 
 pub mul_add_left : (a b c : ℤ) → a *ℤ (b +ℤ c) ≡ a *ℤ b +ℤ a *ℤ c
@@ -20,7 +21,17 @@ pub times_two : (a : ℤ) → a *ℤ pos 2 ≡ a +ℤ a
 times_two a = omega (arith, ints)
 
 -- for `simp`: every product of sums becomes a sum of products whose factors are sorted
-pub ruleset laid_out = (two_times, times_two, mul_add_right, mul_add_left, mul_neg_right, mul_neg_left, mul_assoc_ℤ, mul_comm_ℤ, mul_left_comm)
+pub ruleset laid_out = (
+  two_times,
+  times_two,
+  mul_add_right,
+  mul_add_left,
+  mul_neg_right,
+  mul_neg_left,
+  mul_assoc_ℤ,
+  mul_comm_ℤ,
+  mul_left_comm,
+)
 
 -- for `omega`: sums of such products
 pub ruleset sums = (same_out, same_in, le_out, lt_out, below_in, at_most_in, sum_is_lem, neg_is)
@@ -47,5 +58,6 @@ cancel a b (negsuc k) p h = absurd (omega (arith, ints, p))
 
 pub positive_product : (a b : ℤ) → pos 0 <ℤ a → pos 0 <ℤ b → pos 0 <ℤ (a *ℤ b)
 positive_product a b p q =
-    let m = simp laid_out at (nonneg_product (a -ℤ pos 1) b (omega (arith, sums, p)) (omega (arith, sums, q))) in
+    let m =
+    simp laid_out at (nonneg_product (a -ℤ pos 1) b (omega (arith, sums, p)) (omega (arith, sums, q))) in
     omega (arith, ints, m, q)

@@ -8,10 +8,12 @@ pub floor_at : (a b q r : ℤ) → q *ℤ b +ℤ r ≡ a → pos 0 ≤ℤ r → 
 floor_at a b q r e r0 rb = record { below = omega (arith, ints, e); next = omega (arith, ints, e) }
 
 pub floor_before : (a b q r : ℤ) → q *ℤ b +ℤ r ≡ a → r <ℤ pos 0 → (pos 0 -ℤ b) ≤ℤ r → IsFloor a b (q -ℤ pos 1)
-floor_before a b q r e r0 rb = let m = mul_sub_right q (pos 1) b in record { below = omega (arith, ints, e, m); next = omega (arith, ints, e, m) }
+floor_before a b q r e r0 rb = let m = mul_sub_right q (pos 1) b in
+    record { below = omega (arith, ints, e, m); next = omega (arith, ints, e, m) }
 
 pub ceil_at : (a b q r : ℤ) → q *ℤ b +ℤ r ≡ a → r ≤ℤ pos 0 → (pos 0 -ℤ b) <ℤ r → IsCeil a b q
 ceil_at a b q r e r0 rb = record { above = omega (arith, ints, e); last = omega (arith, ints, e) }
 
 pub ceil_after : (a b q r : ℤ) → q *ℤ b +ℤ r ≡ a → pos 0 <ℤ r → r ≤ℤ b → IsCeil a b (q +ℤ pos 1)
-ceil_after a b q r e r0 rb = let m = mul_add_right q (pos 1) b in record { above = omega (arith, ints, e, m); last = omega (arith, ints, e, m) }
+ceil_after a b q r e r0 rb = let m = mul_add_right q (pos 1) b in
+    record { above = omega (arith, ints, e, m); last = omega (arith, ints, e, m) }

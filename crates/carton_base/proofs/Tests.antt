@@ -1,5 +1,6 @@
 -- What the code's tests of signed numbers tell.
-use Rattle.std.proofs.Common.{arith, ◌≡◌, SFits, ℤ, pos, negsuc, of_z, to_z, ap, sym, ◌∙◌, eqb, ◌≤ℤ◌, ◌<ℤ◌, true, false}
+use Rattle.std.proofs.Common.{arith, ◌≡◌, SFits, ℤ, pos, negsuc, of_z, to_z, ap, sym, ◌∙◌, eqb, ◌≤ℤ◌, ◌<ℤ◌}
+use Rattle.std.proofs.Common.{true, false}
 use Rattle.std.specs.Bool.{Decides}
 use Rattle.std.specs.Ordering.{int_eq}
 use lib.Signed.{lt_z}
@@ -21,15 +22,20 @@ not_above a h k = grind (arith, ints)
 
 -- the code's test for zero is that of integers
 pub same_zero_test : (z : ℤ) → SFits w128 z → eqb (of_z w128 z) 0 ≡ int_eq z (pos 0)
-same_zero_test z f = same_from_decides _ _ (Decides-like _ (λ e. zero_bits z f e) (λ e. ap (of_z w128) e) (Decides-eqb (of_z w128 z) 0)) (Decides-int_eq z (pos 0))
+same_zero_test z f =
+    same_from_decides _ _ (Decides-like _ (λ e. zero_bits z f e) (λ e. ap (of_z w128) e)
+    (Decides-eqb (of_z w128 z) 0)) (Decides-int_eq z (pos 0))
   where
     zero_bits : (z : ℤ) → SFits w128 z → of_z w128 z ≡ 0 → z ≡ pos 0
     zero_bits (pos n) f e = ap pos e
     zero_bits (negsuc n) f e = absurd (omega (arith, ints, f.sfits, e))
 
 -- and its test for equal numbers
-pub Decides-same_bits : (a b : ℤ) → SFits w128 a → SFits w128 b → Decides (eqb (of_z w128 a) (of_z w128 b)) (a ≡ b)
-Decides-same_bits a b f g = Decides-like _ (λ e. sym (to_z-of_z w128 a f) ∙ ap (to_z w128) e ∙ to_z-of_z w128 b g) (λ e. ap (of_z w128) e) (Decides-eqb (of_z w128 a) (of_z w128 b))
+pub Decides-same_bits : (a b : ℤ) → SFits w128 a → SFits w128 b
+    → Decides (eqb (of_z w128 a) (of_z w128 b)) (a ≡ b)
+Decides-same_bits a b f g =
+    Decides-like _ (λ e. sym (to_z-of_z w128 a f) ∙ ap (to_z w128) e ∙ to_z-of_z w128 b g)
+    (λ e. ap (of_z w128) e) (Decides-eqb (of_z w128 a) (of_z w128 b))
 
 pub less_from_test : (a b : ℤ) → lt_z a b ≡ true → a <ℤ b
 less_from_test a b h = grind (arith, ints)

@@ -12,7 +12,8 @@ abbrev pub refuse_if : {E : Type 0} → Bool → E → Result Bool E
 refuse_if true e = Err e
 refuse_if false e = Ok true
 
--- what a function returned, seen by view, is what the rules give, unless it returned the error for want of memory
+-- what a function returned, seen by view, is what the rules give, unless it returned the error for want of
+-- memory
 abbrev pub Gives : {X Y E : Type 0} → E → (X → Y) → Result X E → Result Y E → Type 0
 Gives memory view (Ok x) rules = rules ≡ Ok (view x)
 Gives memory view (Err e) rules = e ≢ memory → rules ≡ Err e

@@ -41,7 +41,7 @@ pub fn difference<const N: u32>(a: i128, b: i128) -> i128
     ensures value { result ≡ a -ℤ b }
     ensures size { unsigned_abs result ≤ 2 ^ (N + 1) }
 {
-    a - b
+    sum::<N>(a, -b)
 }
 
 /// 2 * a, for a of a size up to 2^N.
@@ -51,5 +51,5 @@ pub fn double<const N: u32>(a: i128) -> i128
     ensures value { result ≡ a +ℤ a }
     ensures size { unsigned_abs result ≤ 2 ^ (N + 1) }
 {
-    2 * a
+    sum::<N>(a, a)
 }

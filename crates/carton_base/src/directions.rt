@@ -33,7 +33,8 @@ pub const DIRECTIONS: [[i8; 3]; 26] = [
 
 /// `DIRECTIONS`: each direction, and nothing else.
 pub fn all_directions() -> [[i8; 3]; 26]
-    ensures each { All (λ d. IsDirection (slice_index_or d 0 (pos 0)) (slice_index_or d 1 (pos 0)) (slice_index_or d 2 (pos 0))) result }
+    ensures each { All (λ d. IsDirection (slice_index_or d 0 (pos 0)) (slice_index_or d 1 (pos 0))
+        (slice_index_or d 2 (pos 0))) result }
     ensures all { (u v t : ℤ) → IsDirection u v t → Contains result (u ∷ v ∷ t ∷ []) }
 {
     DIRECTIONS

@@ -18,18 +18,22 @@ use Rattle.carton_check.proofs.Moves.{at_place}
 use Rattle.carton_bodies.specs.Plans.{IsPlanOf}
 
 -- places past the joints stand still
-small_step : (joints : ℕ) (s r : State) → IsState joints s → IsState joints r → IsStrideFrom joints WIDEST_STEP s r → IsStrideFrom MOST_JOINTS WIDEST_STEP s r
+small_step : (joints : ℕ) (s r : State) → IsState joints s → IsState joints r
+    → IsStrideFrom joints WIDEST_STEP s r → IsStrideFrom MOST_JOINTS WIDEST_STEP s r
 small_step joints s r hs hr h = λ k l. elim (cases_lt k joints) [
   | inl lt ↦ h k lt
-  | inr ge ↦ let a = hs.others k (omega (arith, ge)) l in let b = hr.others k (omega (arith, ge)) l in omega (arith, ints, a, b)
+  | inr ge ↦ let a = hs.others k (omega (arith, ge)) l in let b = hr.others k (omega (arith, ge)) l in
+      omega (arith, ints, a, b)
 ]
 
 pub moves_of_plan : (t : Tree) (plan : Plan) → IsPlanOf t plan → AreMoves plan.states
 moves_of_plan t plan p =
     let joints = length plan.creases in
     let rules = p.rules.states in
-    let each : (i : ℕ) (s : State) → slice_get plan.states i ≡ Some s → IsState joints s = λ i s e. at_place (IsState joints) plan.states i s rules.each e in
-    let grid : (i : ℕ) (s : State) → slice_get plan.states i ≡ Some s → s.grid ≡ grid_of plan.states = λ i s e. at_place (λ (x : State). x.grid ≡ grid_of plan.states) plan.states i s rules.one_grid e in
+    let each : (i : ℕ) (s : State) → slice_get plan.states i ≡ Some s
+    → IsState joints s = λ i s e. at_place (IsState joints) plan.states i s rules.each e in
+    let grid : (i : ℕ) (s : State) → slice_get plan.states i ≡ Some s → s.grid ≡ grid_of plan.states =
+    λ i s e. at_place (λ (x : State). x.grid ≡ grid_of plan.states) plan.states i s rules.one_grid e in
     record {
       few = rules.few;
       each = λ i s e. in_all_places joints s (each i s e);
@@ -38,7 +42,8 @@ moves_of_plan t plan p =
     }
 
 -- a plan that does what a task of the carton asks is a plan of the carton
-pub plan_of_task : (t : Tree) (task : Task) (plan : Plan) → IsTask task → IsPlan plan → task.creases ≡ t.creases → HasMoves task plan → IsPlanOf t plan
+pub plan_of_task : (t : Tree) (task : Task) (plan : Plan) → IsTask task → IsPlan plan
+    → task.creases ≡ t.creases → HasMoves task plan → IsPlanOf t plan
 plan_of_task t task plan kept rules same has = record {
   rules = rules;
   creases = has.0.0.0 ∙ same;

@@ -4,11 +4,13 @@
 pub mod bodies;
 pub mod catalogues;
 pub mod dielines;
+mod faults;
 pub mod fixtures;
 pub mod jobs;
 pub mod plans;
 mod setting_up;
 mod telling;
 
-pub use setting_up::{Case, Files, carton_of, case_of, files_of, plan_of};
+pub use faults::wrongly_told;
+pub use setting_up::{Case, Files, Setup, carton_of, case_of, files_of, plan_of, setup_of};
 pub use telling::tells_place;

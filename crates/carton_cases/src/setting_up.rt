@@ -1,8 +1,9 @@
 ghost use Rattle.std.specs.Prelude.{◌≡◌, ◌↔◌, ◌≤◌, IfSome, IsTrue};
-ghost use Rattle.carton_cases.specs.Cases.{AreFiles, IsCase};
+ghost use Rattle.carton_cases.specs.Cases.{AreFiles, IsCase, IsSetup};
 ghost use Rattle.carton_text.specs.PlanRules.{IsPlan};
 
 use carton_base::{EdgeId, PanelId, RawDieline};
+use carton_catalogue::{Catalogue, fit_catalogue, read_catalogue};
 use carton_fold::read_dieline;
 use carton_text::{Job, Plan, Task, job_for, read_job, read_plan};
 use carton_tree::{Carton, tree};
@@ -20,6 +21,15 @@ pub struct Files {
 pub struct Case {
     pub carton: Carton,
     pub task: Task,
+}
+
+/// A carton, a task and a plan of it, and a catalogue.
+#[derive(Drop)]
+pub struct Setup {
+    pub carton: Carton,
+    pub task: Task,
+    pub plan: Plan,
+    pub catalogue: Catalogue,
 }
 
 /// The dieline and the job of these bytes; None where one of them is refused.
@@ -76,6 +86,33 @@ pub fn plan_of(alloc: Global, text: &str) -> Option<Plan>
 {
     match read_plan(alloc, text.as_bytes()) {
         Ok(plan) => Some(plan),
+        Err(_) => None,
+    }
+}
+
+/// All that a fixture is made of, from its texts; None where one of them is refused or the catalogue
+/// doesn't fit.
+pub fn setup_of(
+    alloc: Global,
+    dieline: &str,
+    job: &str,
+    plan: &str,
+    catalogue: &str,
+) -> Option<Setup>
+    ensures { IfSome result IsSetup }
+{
+    let Case { carton, task } = case_of(alloc, dieline, job)?;
+    let plan = plan_of(alloc, plan)?;
+    let Ok(catalogue) = read_catalogue(alloc, catalogue.as_bytes()) else {
+        return None;
+    };
+    match fit_catalogue(&carton, &task, &plan, &catalogue) {
+        Ok(()) => Some(Setup {
+            carton,
+            task,
+            plan,
+            catalogue,
+        }),
         Err(_) => None,
     }
 }

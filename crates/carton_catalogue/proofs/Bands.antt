@@ -32,11 +32,17 @@ on_sixteen band stop h =
     record { under = rw stops (omega (arith, ints, under)); over = rw stops (omega (arith, ints, over)) }
 
 -- where a joint has room for a band, both ends are stops of the state's grid
-pub ends_are_stops : (s : State) (k band : ℕ) → HasRoomFor band (fold_in s k) → AreStops s.grid band (stop_of s k)
+pub ends_are_stops : (s : State) (k band : ℕ) → HasRoomFor band (fold_in s k)
+    → AreStops s.grid band (stop_of s k)
 ends_are_stops s k band h = by_grid s.grid (stop_of s k) (grids s.grid s.on_grid) h
   where
-    by_grid : (g : ℕ) (stop : ℤ) → (g ≡ 8) ⊎ (g ≡ 16) → HasRoomFor band (stop_fold stop g) → AreStops g band stop
+    by_grid : (g : ℕ) (stop : ℤ) → (g ≡ 8) ⊎ (g ≡ 16) → HasRoomFor band (stop_fold stop g)
+        → AreStops g band stop
     by_grid g stop which room = elim which [
-      | inl e ↦ subst (λ n. AreStops n band stop) (sym e) (on_eight band stop (subst (λ n. HasRoomFor band (stop_fold stop n)) e room))
-      | inr e ↦ subst (λ n. AreStops n band stop) (sym e) (on_sixteen band stop (subst (λ n. HasRoomFor band (stop_fold stop n)) e room))
+      | inl e ↦
+          subst (λ n. AreStops n band stop) (sym e)
+          (on_eight band stop (subst (λ n. HasRoomFor band (stop_fold stop n)) e room))
+      | inr e ↦
+          subst (λ n. AreStops n band stop) (sym e)
+          (on_sixteen band stop (subst (λ n. HasRoomFor band (stop_fold stop n)) e room))
     ]

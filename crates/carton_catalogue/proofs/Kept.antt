@@ -1,5 +1,7 @@
 -- A line of a catalogue that was read keeps the rules of its form.
-use Rattle.std.proofs.Common.{◌≡◌, ℕ, ◌+◌, ◌*◌, ◌≤◌, ◌<◌, ◌<ℤ◌, ℤ, unsigned_abs, int_lt, Bool, true, false, not, ◌&&◌, leb, ltb, eqb, List, [], ◌∷◌, length, Result, Ok, Err, IfOk, refl, sym, ◌∙◌, subst, All, arith, ok_or}
+use Rattle.std.proofs.Common.{◌≡◌, ℕ, ◌+◌, ◌*◌, ◌≤◌, ◌<◌, ◌<ℤ◌, ℤ, unsigned_abs, int_lt, Bool, true, false}
+use Rattle.std.proofs.Common.{not, ◌&&◌, leb, ltb, eqb, List, [], ◌∷◌, length, Result, Ok, Err, IfOk, refl}
+use Rattle.std.proofs.Common.{sym, ◌∙◌, subst, All, arith, ok_or}
 use Rattle.std.specs.List.{range_with_len, AllByRecursion}
 use Rattle.std.proofs.lemmas.Bool.{leb-true, ltb-false}
 use Rattle.std.proofs.lemmas.Bool.Decides.{nat_tests}
@@ -17,16 +19,23 @@ use Rattle.carton_lines.specs.declared.fault.Fault.TheVariants.{BadLine, Range}
 use Rattle.carton_lines.specs.Lines.{Gives, words_of}
 use Rattle.carton_lines.specs.Numbers.{numbers_in, from_to, at_most}
 use Rattle.carton_text.proofs.Kept.{within}
-use Rattle.carton_catalogue.specs.declared.limits.TheConstants.{FARTHEST_CORNER, LAST_EDGE, LAST_MOVE, MOST_BODIES, MOST_PROBES, WIDEST_BAND}
+use Rattle.carton_catalogue.specs.declared.limits.TheConstants.{FARTHEST_CORNER, LAST_EDGE, LAST_MOVE}
+use Rattle.carton_catalogue.specs.declared.limits.TheConstants.{MOST_BODIES, MOST_PROBES, WIDEST_BAND}
 use Rattle.carton_catalogue.specs.declared.lines.Keyword.{Keyword}
 use Rattle.carton_catalogue.specs.declared.lines.Keyword.TheVariants as word
 use Rattle.carton_catalogue.specs.declared.lines.CatalogueLine.{CatalogueLine}
-use Rattle.carton_catalogue.specs.declared.lines.CatalogueLine.TheVariants.{Stroke, Bodies, Guide as GuideLine}
-use Rattle.carton_catalogue.specs.CatalogueLines.{coordinates_in, stroke_in, is_span, is_body, body, cuboid_of, bodies_in, body_of_row, row_in, points_of, are_pairs, probes_in, guide_in, keyword_in, numbered, worded, line_in}
+use Rattle.carton_catalogue.specs.declared.lines.CatalogueLine.TheVariants.{Stroke, Bodies}
+use Rattle.carton_catalogue.specs.declared.lines.CatalogueLine.TheVariants.{Guide as GuideLine}
+use Rattle.carton_catalogue.specs.CatalogueLines.{coordinates_in, stroke_in, is_span, is_body, body}
+use Rattle.carton_catalogue.specs.CatalogueLines.{cuboid_of, bodies_in, body_of_row, row_in, points_of}
+use Rattle.carton_catalogue.specs.CatalogueLines.{are_pairs, probes_in, guide_in, keyword_in, numbered}
+use Rattle.carton_catalogue.specs.CatalogueLines.{worded, line_in}
 use Rattle.carton_catalogue.specs.CatalogueRules.{IsCoordinate, IsSpan, IsBody, IsStroke, IsGuide}
 
 -- what holds of all that the rules give holds of what was returned
-pub if_given : {X : Type 0} (items : X → List ℤ) (P : List ℤ → Type 0) (r : Result X Fault) (rules : Result (List ℤ) Fault) → Gives items r rules → ((xs : List ℤ) → rules ≡ Ok xs → P xs) → IfOk r (λ x. P (items x))
+pub if_given : {X : Type 0} (items : X → List ℤ) (P : List ℤ → Type 0) (r : Result X Fault)
+    (rules : Result (List ℤ) Fault) → Gives items r rules → ((xs : List ℤ) → rules ≡ Ok xs → P xs)
+    → IfOk r (λ x. P (items x))
 if_given items P (Ok x) rules h f = f (items x) h
 if_given items P (Err e) rules h f = tt
 
@@ -53,7 +62,8 @@ are_coordinates count zs xs h =
     let fine = both (refuse_if (not (eqb (length zs) count)) BadLine) _ xs h in
     let entry = λ (i : ℕ). at_most FARTHEST_CORNER in
     record {
-      count_is = count_entries entry 0 zs xs fine.2 ∙ same_count (length zs) count (not_refused _ BadLine fine.0 fine.1);
+      count_is = count_entries entry 0 zs xs fine.2
+          ∙ same_count (length zs) count (not_refused _ BadLine fine.0 fine.1);
       each = all_entries IsCoordinate entry (sized FARTHEST_CORNER) 0 zs xs fine.2;
     }
 
@@ -65,7 +75,11 @@ unfolding is_span
 span low high h =
     let p = both_true (leb (unsigned_abs low) FARTHEST_CORNER) _ h in
     let q = both_true (leb (unsigned_abs high) FARTHEST_CORNER) _ p.1 in
-    record { from = leb-true (unsigned_abs low) FARTHEST_CORNER p.0; upto = leb-true (unsigned_abs high) FARTHEST_CORNER q.0; ordered = less low high q.1 }
+    record {
+      from = leb-true (unsigned_abs low) FARTHEST_CORNER p.0;
+      upto = leb-true (unsigned_abs high) FARTHEST_CORNER q.0;
+      ordered = less low high q.1;
+    }
 
 made_body : (b c : Cuboid) → body b ≡ Ok c → IsBody c
 unfolding is_body
@@ -73,7 +87,11 @@ made_body b c h =
     let made = only_if (is_body b) Range b c h in
     let p = both_true (is_span b.x0 b.x1) _ made.0 in
     let q = both_true (is_span b.y0 b.y1) _ p.1 in
-    subst IsBody (sym made.1) (record { x = span b.x0 b.x1 p.0; y = span b.y0 b.y1 q.0; z = span b.z0 b.z1 q.1 })
+    subst IsBody (sym made.1) (record {
+      x = span b.x0 b.x1 p.0;
+      y = span b.y0 b.y1 q.0;
+      z = span b.z0 b.z1 q.1;
+    })
 
 is_stroke : (zs xs : List ℤ) → stroke_in zs ≡ Ok xs → IsStroke xs
 unfolding stroke_in
@@ -86,7 +104,8 @@ unfolding bodies_in
 one_body zs bodies h =
     let sides = both (coordinates_in 6 zs) _ bodies h in
     let b = both (body (cuboid_of sides.0)) _ bodies sides.2 in
-    subst (All IsBody) (same_ok (b.0 ∷ []) bodies _ refl b.2) (All-cons IsBody b.0 [] (made_body _ b.0 b.1) (All-nil IsBody))
+    subst (All IsBody) (same_ok (b.0 ∷ []) bodies _ refl b.2)
+    (All-cons IsBody b.0 [] (made_body _ b.0 b.1) (All-nil IsBody))
 
 row_bodies : (zs : List ℤ) (bodies : List Cuboid) → row_in zs ≡ Ok bodies → All IsBody bodies
 unfolding row_in
@@ -94,9 +113,11 @@ row_bodies [] bodies h = cc
 row_bodies (n ∷ zs) bodies h =
     let numbers = both (coordinates_in 9 zs) _ bodies h in
     let count = both (from_to 1 MOST_BODIES n) _ bodies numbers.2 in
-    all_entries IsBody (λ i. body_of_row numbers.0) (λ i k b e. made_body _ b e) 0 (range_with_len 0 count.0) bodies count.2
+    all_entries IsBody (λ i. body_of_row numbers.0) (λ i k b e. made_body _ b e) 0 (range_with_len 0 count.0)
+    bodies count.2
 
-near_points : (zs : List ℤ) → AllByRecursion (λ z. unsigned_abs z ≤ FARTHEST) zs → AllByRecursion IsNear (points_of zs)
+near_points : (zs : List ℤ) → AllByRecursion (λ z. unsigned_abs z ≤ FARTHEST) zs
+    → AllByRecursion IsNear (points_of zs)
 near_points [] h = tt
 near_points (x ∷ []) h = tt
 near_points (x ∷ y ∷ zs) h = (record { x = h.0; y = h.1.0 }, near_points zs h.1.1)
@@ -132,7 +153,10 @@ are_probes zs ps h =
     subst AreProbes (same_ok (points_of xs.0) ps _ refl xs.2) (record {
       some = omega (arith, most, count, two);
       few = omega (arith, least, count, upto);
-      near = All-from_recursion IsNear (points_of xs.0) (near_points xs.0 (recursion_from_All (λ z. unsigned_abs z ≤ FARTHEST) xs.0 (all_entries (λ z. unsigned_abs z ≤ FARTHEST) entry (sized FARTHEST) 0 zs xs.0 xs.1)));
+      near = All-from_recursion IsNear (points_of xs.0)
+          (near_points xs.0
+          (recursion_from_All (λ z. unsigned_abs z ≤ FARTHEST) xs.0
+          (all_entries (λ z. unsigned_abs z ≤ FARTHEST) entry (sized FARTHEST) 0 zs xs.0 xs.1)));
     })
   where
     enough : (zs : List ℤ) → not (are_pairs zs) ≡ false → 2 ≤ length zs
@@ -172,7 +196,8 @@ IsLine (Bodies bodies) = All IsBody bodies
 IsLine (GuideLine guide) = IsGuide guide
 
 -- the line that is made of what a step gave keeps what that step keeps
-made_line : {A : Type 0} (r : Result A Fault) (make : A → CatalogueLine) (l : CatalogueLine) → (r >>= λ x. Ok (make x)) ≡ Ok l → ((x : A) → r ≡ Ok x → IsLine (make x)) → IsLine l
+made_line : {A : Type 0} (r : Result A Fault) (make : A → CatalogueLine) (l : CatalogueLine)
+    → (r >>= λ x. Ok (make x)) ≡ Ok l → ((x : A) → r ≡ Ok x → IsLine (make x)) → IsLine l
 made_line (Ok x) make l h kept = subst IsLine (same_ok (make x) l _ refl h) (kept x refl)
 made_line (Err e) make l h kept = cc
 

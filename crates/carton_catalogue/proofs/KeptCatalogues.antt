@@ -1,5 +1,7 @@
 -- A catalogue that was read keeps every rule of its text.
-use Rattle.std.proofs.Common.{◌≡◌, ◌≤◌, ◌+◌, ℕ, ℤ, pos, false, leb, ltb, eqb, is_some, List, [], ◌∷◌, ◌++◌, length, Option, Some, None, IfSome, unwrap_or, Result, Ok, Err, IfOk, refl, sym, subst, All, arith, length-append, codes, bytes_eq}
+use Rattle.std.proofs.Common.{◌≡◌, ◌≤◌, ◌+◌, ℕ, ℤ, pos, false, leb, ltb, eqb, is_some, List, [], ◌∷◌, ◌++◌}
+use Rattle.std.proofs.Common.{length, Option, Some, None, IfSome, unwrap_or, Result, Ok, Err, IfOk, refl, sym}
+use Rattle.std.proofs.Common.{subst, All, arith, length-append, codes, bytes_eq}
 use Rattle.std.proofs.lemmas.Bool.{leb-false, ltb-false}
 use Rattle.std.proofs.lemmas.Bool.Decides.{nat_tests}
 use Rattle.std.proofs.lemmas.List.Elements.{All-nil, All-push, All-append, All-from_recursion}
@@ -13,12 +15,15 @@ use Rattle.carton_catalogue.specs.declared.catalogue.Catalogue.{Catalogue}
 use Rattle.carton_catalogue.specs.declared.catalogue_error.CatalogueError.{CatalogueError}
 use Rattle.carton_catalogue.specs.declared.catalogue_error.CatalogueError.TheVariants.{NoGuide}
 use Rattle.carton_catalogue.specs.declared.lines.CatalogueLine.{CatalogueLine}
-use Rattle.carton_catalogue.specs.declared.lines.CatalogueLine.TheVariants.{Stroke, Bodies, Guide as GuideLine}
+use Rattle.carton_catalogue.specs.declared.lines.CatalogueLine.TheVariants.{Stroke, Bodies}
+use Rattle.carton_catalogue.specs.declared.lines.CatalogueLine.TheVariants.{Guide as GuideLine}
 use Rattle.carton_catalogue.specs.declared.draft.CatalogueDraft.{CatalogueDraft}
 use Rattle.carton_catalogue.specs.declared.limits.TheConstants.{MOST_BODIES, MOST_GUIDES}
 use Rattle.carton_catalogue.specs.CatalogueLines.{line_in}
-use Rattle.carton_catalogue.specs.Catalogues.{new_draft, with_stroke, with_bodies, with_guide, add, begun, later_line, catalogue_lines, told}
-use Rattle.carton_catalogue.specs.CatalogueRules.{IsCoordinate, IsBody, IsStroke, IsGuide, AreBodies, IsCatalogue}
+use Rattle.carton_catalogue.specs.Catalogues.{new_draft, with_stroke, with_bodies, with_guide, add, begun}
+use Rattle.carton_catalogue.specs.Catalogues.{later_line, catalogue_lines, told}
+use Rattle.carton_catalogue.specs.CatalogueRules.{IsCoordinate, IsBody, IsStroke, IsGuide, AreBodies}
+use Rattle.carton_catalogue.specs.CatalogueRules.{IsCatalogue}
 use Rattle.carton_catalogue.proofs.Kept.{IsLine, line_kept}
 
 -- what the lines so far have told keeps the rules
@@ -40,11 +45,13 @@ bodies_added : (d e : CatalogueDraft) (more : List Cuboid) → IsDraft d → All
 unfolding with_bodies
 bodies_added d e more k are h =
     let new =
-    unless (ltb MOST_BODIES (length d.bodies + length more)) Range (record d { bodies = d.bodies ++ more }) e h in
+    unless (ltb MOST_BODIES (length d.bodies + length more)) Range (record d { bodies = d.bodies ++ more }) e
+    h in
     let room = ltb-false MOST_BODIES (length d.bodies + length more) new.0 in
     subst IsDraft (sym new.1) (record {
       stroke = k.stroke;
-      bodies = record { few = rw length-append room; each = All-append IsBody d.bodies more k.bodies.each are };
+      bodies =
+          record { few = rw length-append room; each = All-append IsBody d.bodies more k.bodies.each are };
       few = k.few;
       guides = k.guides;
     })
@@ -91,7 +98,8 @@ later_told d e n line k h =
 no_stroke : IsStroke (pos 0 ∷ pos 0 ∷ pos 0 ∷ [])
 no_stroke = record {
   three = refl;
-  each = All-from_recursion IsCoordinate (pos 0 ∷ pos 0 ∷ pos 0 ∷ []) (omega arith, (omega arith, (omega arith, tt)));
+  each = All-from_recursion IsCoordinate (pos 0 ∷ pos 0 ∷ pos 0 ∷ [])
+      (omega arith, (omega arith, (omega arith, tt)));
 }
 
 stroke_told : (o : Option (List ℤ)) → IfSome o IsStroke → IsStroke (unwrap_or o (pos 0 ∷ pos 0 ∷ pos 0 ∷ []))
@@ -101,7 +109,12 @@ stroke_told (Some stroke) k = k
 told_catalogue : (d : CatalogueDraft) (c : Catalogue) → IsDraft d → told d ≡ Ok c → IsCatalogue c
 told_catalogue d c k h =
     let some =
-    unless (eqb (length d.guides) 0) NoGuide (record { stroke = unwrap_or d.stroke (pos 0 ∷ pos 0 ∷ pos 0 ∷ []); bodies = d.bodies; guides = d.guides }) c h in
+    unless (eqb (length d.guides) 0) NoGuide
+    (record {
+      stroke = unwrap_or d.stroke (pos 0 ∷ pos 0 ∷ pos 0 ∷ []);
+      bodies = d.bodies;
+      guides = d.guides;
+    }) c h in
     subst IsCatalogue (sym some.1) (record {
       stroke = stroke_told d.stroke k.stroke;
       bodies = k.bodies;

@@ -1,18 +1,22 @@
 -- What refuses a catalogue for one of two same cartons and a plan refuses it for the other and every plan of
 -- the same data.
-use Rattle.std.proofs.Common.{◌≡◌, ℕ, suc, zero, ◌<◌, List, [], ◌∷◌, length, map, Option, Some, None, IfSome, IsSomeAnd, slice_get, get_or, refl, sym, ◌∙◌, ap, subst, arith, pos}
+use Rattle.std.proofs.Common.{◌≡◌, ℕ, suc, zero, ◌<◌, List, [], ◌∷◌, length, map, Option, Some, None, IfSome}
+use Rattle.std.proofs.Common.{IsSomeAnd, slice_get, get_or, refl, sym, ◌∙◌, ap, subst, arith, pos}
 use Rattle.std.proofs.lemmas.List.{length-map}
 use Rattle.std.proofs.lemmas.Option.{slice_get-get_or, slice_get_within, get_or_from_slice_get}
 use Rattle.carton_base.specs.declared.bodies.Guide.{Guide}
 use Rattle.carton_base.specs.declared.dieline.Point.{Point}
 use Rattle.carton_base.specs.declared.limits.TheConstants.{MOST_JOINTS}
 use Rattle.carton_base.specs.declared.motion.State.{State}
-use Rattle.carton_catalogue.specs.Fits.{IsGuided, HasWindow, HasRoomFor, KeepsBand, IsOnShape, IsOnPanel, IsOutside, FitsGuide, IsMisfit, IsFirstMisfit, IsRefusedBy, IsRefusal}
+use Rattle.carton_catalogue.specs.Fits.{IsGuided, HasWindow, HasRoomFor, KeepsBand, IsOnShape, IsOnPanel}
+use Rattle.carton_catalogue.specs.Fits.{IsOutside, FitsGuide, IsMisfit, IsFirstMisfit, IsRefusedBy, IsRefusal}
 use Rattle.carton_catalogue.specs.declared.catalogue.Catalogue.{Catalogue}
 use Rattle.carton_catalogue.specs.declared.fit_error.FitError.{FitError}
-use Rattle.carton_catalogue.specs.declared.fit_error.FitError.TheVariants.{OtherCreases, NotAJoint, BadWindow, BandTooWide, ProbeOutside}
+use Rattle.carton_catalogue.specs.declared.fit_error.FitError.TheVariants.{OtherCreases, NotAJoint, BadWindow}
+use Rattle.carton_catalogue.specs.declared.fit_error.FitError.TheVariants.{BandTooWide, ProbeOutside}
 use Rattle.carton_catalogue.specs.declared.fit_error.Misfit.{Misfit}
-use Rattle.carton_catalogue.specs.declared.fit_error.Misfit.TheVariants.{Joint as NoJoint, Window, Band, Probe}
+use Rattle.carton_catalogue.specs.declared.fit_error.Misfit.TheVariants.{Joint as NoJoint, Window, Band}
+use Rattle.carton_catalogue.specs.declared.fit_error.Misfit.TheVariants.{Probe}
 use Rattle.carton_model.specs.HalfTurns.{stop_fold}
 use Rattle.carton_model.specs.Moves.{stop_of}
 use Rattle.carton_panels.specs.Shapes.{Shape}

@@ -1,5 +1,7 @@
 -- The lines of a catalogue, each by itself.
-use Rattle.std.specs.Prelude.{ℕ, ◌*◌, ◌%◌, ℤ, pos, ◌+ℤ◌, ◌*ℤ◌, unsigned_abs, int_lt, List, [], ◌∷◌, length, slice_index_or, not, nat_eq, nat_lt, nat_le, bytes_eq, ◌&&◌, Bool, if◌then◌else◌, Option, Some, None, ok_or, Result, Ok, Err, codes}
+use Rattle.std.specs.Prelude.{ℕ, ◌*◌, ◌%◌, ℤ, pos, ◌+ℤ◌, ◌*ℤ◌, unsigned_abs, int_lt, List, [], ◌∷◌, length}
+use Rattle.std.specs.Prelude.{slice_index_or, not, nat_eq, nat_lt, nat_le, bytes_eq, ◌&&◌, Bool}
+use Rattle.std.specs.Prelude.{if◌then◌else◌, Option, Some, None, ok_or, Result, Ok, Err, codes}
 use Rattle.std.specs.List.{range_with_len}
 use Rattle.carton_base.specs.declared.limits.TheConstants.{FARTHEST}
 use Rattle.carton_base.specs.declared.bodies.Cuboid.{Cuboid}
@@ -13,8 +15,10 @@ use Rattle.carton_lines.specs.Numbers.{numbers_in, from_to, at_most}
 use Rattle.carton_catalogue.specs.declared.lines.Keyword.{Keyword}
 use Rattle.carton_catalogue.specs.declared.lines.Keyword.TheVariants.{Stroke, Body, Row, Guide as GuideWord}
 use Rattle.carton_catalogue.specs.declared.lines.CatalogueLine.{CatalogueLine}
-use Rattle.carton_catalogue.specs.declared.lines.CatalogueLine.TheVariants.{Stroke as StrokeLine, Bodies, Guide as GuideLine}
-use Rattle.carton_catalogue.specs.declared.limits.TheConstants.{FARTHEST_CORNER, LAST_EDGE, LAST_MOVE, MOST_BODIES, MOST_PROBES, WIDEST_BAND}
+use Rattle.carton_catalogue.specs.declared.lines.CatalogueLine.TheVariants.{Stroke as StrokeLine, Bodies}
+use Rattle.carton_catalogue.specs.declared.lines.CatalogueLine.TheVariants.{Guide as GuideLine}
+use Rattle.carton_catalogue.specs.declared.limits.TheConstants.{FARTHEST_CORNER, LAST_EDGE, LAST_MOVE}
+use Rattle.carton_catalogue.specs.declared.limits.TheConstants.{MOST_BODIES, MOST_PROBES, WIDEST_BAND}
 
 -- the number in a place of a list
 abbrev pub at : List ℤ → ℕ → ℤ
@@ -32,7 +36,9 @@ stroke_in zs = coordinates_in 3 zs
 
 -- the two sides of a box lie within the bounds, the one below the other
 unfoldable pub is_span : ℤ → ℤ → Bool
-is_span low high = nat_le (unsigned_abs low) FARTHEST_CORNER && (nat_le (unsigned_abs high) FARTHEST_CORNER && int_lt low high)
+is_span low high =
+    nat_le (unsigned_abs low) FARTHEST_CORNER
+    && (nat_le (unsigned_abs high) FARTHEST_CORNER && int_lt low high)
 
 -- a catalogue may have the box
 unfoldable pub is_body : Cuboid → Bool

@@ -5,7 +5,8 @@ use Rattle.carton_base.specs.declared.bodies.Guide.{Guide}
 use Rattle.carton_model.specs.Dielines.{IsNear}
 use Rattle.carton_text.specs.JobRules.{IsEdgeNumber, IsWithin}
 use Rattle.carton_catalogue.specs.declared.catalogue.Catalogue.{Catalogue}
-use Rattle.carton_catalogue.specs.declared.limits.TheConstants.{FARTHEST_CORNER, LAST_MOVE, MOST_BODIES, MOST_GUIDES, MOST_PROBES, WIDEST_BAND}
+use Rattle.carton_catalogue.specs.declared.limits.TheConstants.{FARTHEST_CORNER, LAST_MOVE, MOST_BODIES}
+use Rattle.carton_catalogue.specs.declared.limits.TheConstants.{MOST_GUIDES, MOST_PROBES, WIDEST_BAND}
 
 -- the number lies within the bounds of a catalogue
 abbrev pub IsCoordinate : ℤ → Type 0

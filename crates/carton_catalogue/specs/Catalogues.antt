@@ -1,19 +1,23 @@
 -- The catalogue of a text, or the first rule that fails.
-use Rattle.std.specs.Prelude.{ℕ, ◌+◌, ℤ, pos, ◌++◌, List, [], ◌∷◌, length, nat_eq, nat_lt, nat_le, bytes_eq, is_some, true, if◌then◌else◌, Some, None, unwrap_or, Result, Ok, Err, codes}
+use Rattle.std.specs.Prelude.{ℕ, ◌+◌, ℤ, pos, ◌++◌, List, [], ◌∷◌, length, nat_eq, nat_lt, nat_le, bytes_eq}
+use Rattle.std.specs.Prelude.{is_some, true, if◌then◌else◌, Some, None, unwrap_or, Result, Ok, Err, codes}
 use Rattle.carton_base.specs.declared.bodies.Cuboid.{Cuboid}
 use Rattle.carton_base.specs.declared.bodies.Guide.{Guide}
 use Rattle.carton_base.specs.Steps.{◌>>=◌}
 use Rattle.carton_lines.specs.declared.fault.Fault.{Fault}
 use Rattle.carton_lines.specs.declared.fault.Fault.TheVariants.{BadLine, Range, Duplicate}
 use Rattle.carton_lines.specs.declared.fault.LineError.{LineError}
-use Rattle.carton_lines.specs.declared.fault.LineError.TheVariants.{BadLine as BadLineAt, Range as RangeAt, Duplicate as DuplicateAt, NoEnd, Memory as OutOfMemory}
+use Rattle.carton_lines.specs.declared.fault.LineError.TheVariants.{BadLine as BadLineAt, Range as RangeAt}
+use Rattle.carton_lines.specs.declared.fault.LineError.TheVariants.{Duplicate as DuplicateAt, NoEnd}
+use Rattle.carton_lines.specs.declared.fault.LineError.TheVariants.{Memory as OutOfMemory}
 use Rattle.carton_lines.specs.Grammars.{Grammar}
 use Rattle.carton_lines.specs.Readings.{freely_read}
 use Rattle.carton_catalogue.specs.declared.catalogue.Catalogue.{Catalogue}
 use Rattle.carton_catalogue.specs.declared.catalogue_error.CatalogueError.{CatalogueError}
 use Rattle.carton_catalogue.specs.declared.catalogue_error.CatalogueError.TheVariants.{Line, NoGuide, Memory}
 use Rattle.carton_catalogue.specs.declared.lines.CatalogueLine.{CatalogueLine}
-use Rattle.carton_catalogue.specs.declared.lines.CatalogueLine.TheVariants.{Stroke, Bodies, Guide as GuideLine}
+use Rattle.carton_catalogue.specs.declared.lines.CatalogueLine.TheVariants.{Stroke, Bodies}
+use Rattle.carton_catalogue.specs.declared.lines.CatalogueLine.TheVariants.{Guide as GuideLine}
 use Rattle.carton_catalogue.specs.declared.draft.CatalogueDraft.{CatalogueDraft}
 use Rattle.carton_catalogue.specs.declared.limits.TheConstants.{MOST_BODIES, MOST_GUIDES}
 use Rattle.carton_catalogue.specs.CatalogueLines.{line_in}
@@ -28,11 +32,14 @@ with_stroke d stroke = if is_some d.stroke then Err Duplicate else Ok (record d 
 
 -- more bodies, after those that were told
 unfoldable pub with_bodies : CatalogueDraft → List Cuboid → Result CatalogueDraft Fault
-with_bodies d more = if nat_lt MOST_BODIES (length d.bodies + length more) then Err Range else Ok (record d { bodies = d.bodies ++ more })
+with_bodies d more = if nat_lt MOST_BODIES (length d.bodies + length more) then Err Range else Ok
+    (record d { bodies = d.bodies ++ more })
 
 -- one more guide
 unfoldable pub with_guide : CatalogueDraft → Guide → Result CatalogueDraft Fault
-with_guide d guide = if nat_le MOST_GUIDES (length d.guides) then Err Range else Ok (record d { guides = d.guides ++ guide ∷ [] })
+with_guide d guide =
+    if nat_le MOST_GUIDES (length d.guides) then Err Range else Ok
+    (record d { guides = d.guides ++ guide ∷ [] })
 
 -- what a line adds to what the earlier lines told
 unfoldable pub add : CatalogueDraft → CatalogueLine → Result CatalogueDraft Fault
@@ -54,7 +61,13 @@ catalogue_lines = record { begin = begun; take = later_line; may_end = λ d. tru
 
 -- the catalogue that the lines up to `end` told, if one of them is a guide
 abbrev pub told : CatalogueDraft → Result Catalogue CatalogueError
-told d = if nat_eq (length d.guides) 0 then Err NoGuide else Ok (record { stroke = unwrap_or d.stroke (pos 0 ∷ pos 0 ∷ pos 0 ∷ []); bodies = d.bodies; guides = d.guides })
+told d =
+    if nat_eq (length d.guides) 0 then Err NoGuide else Ok
+    (record {
+      stroke = unwrap_or d.stroke (pos 0 ∷ pos 0 ∷ pos 0 ∷ []);
+      bodies = d.bodies;
+      guides = d.guides;
+    })
 
 -- a fault of the lines as one of a catalogue
 abbrev pub of_a_line : LineError → CatalogueError

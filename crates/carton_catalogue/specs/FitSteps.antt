@@ -7,7 +7,8 @@ use Rattle.carton_base.specs.declared.motion.State.{State}
 use Rattle.carton_tree.specs.Rules.{IsLeast}
 use Rattle.carton_tree.specs.Trees.{Tree}
 use Rattle.carton_catalogue.specs.declared.fit_error.FitError.{FitError}
-use Rattle.carton_catalogue.specs.declared.fit_error.FitError.TheVariants.{NotAJoint, BadWindow, BandTooWide, ProbeOutside}
+use Rattle.carton_catalogue.specs.declared.fit_error.FitError.TheVariants.{NotAJoint, BadWindow, BandTooWide}
+use Rattle.carton_catalogue.specs.declared.fit_error.FitError.TheVariants.{ProbeOutside}
 use Rattle.carton_catalogue.specs.declared.fit_error.Misfit.{Misfit}
 use Rattle.carton_catalogue.specs.declared.fit_error.Misfit.TheVariants.{Joint, Window, Band, Probe}
 use Rattle.carton_catalogue.specs.declared.fitting.Flap.{Flap}

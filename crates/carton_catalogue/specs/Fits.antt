@@ -1,5 +1,6 @@
 -- Whether a catalogue fits a carton, its task and a plan, or the first rule by which it doesn't.
-use Rattle.std.specs.Prelude.{◌≡◌, ℕ, ◌+◌, ◌*◌, ◌<◌, ◌≤◌, List, length, All, IfSome, IsSomeAnd, Some, slice_get, Result, Ok, Err, ℤ, pos, neg_ℤ, ◌+ℤ◌, ◌*ℤ◌, unsigned_abs}
+use Rattle.std.specs.Prelude.{◌≡◌, ℕ, ◌+◌, ◌*◌, ◌<◌, ◌≤◌, List, length, All, IfSome, IsSomeAnd, Some}
+use Rattle.std.specs.Prelude.{slice_get, Result, Ok, Err, ℤ, pos, neg_ℤ, ◌+ℤ◌, ◌*ℤ◌, unsigned_abs}
 use Rattle.carton_base.specs.declared.bodies.Guide.{Guide}
 use Rattle.carton_base.specs.declared.dieline.Point.{Point}
 use Rattle.carton_base.specs.declared.motion.State.{State}
@@ -13,7 +14,8 @@ use Rattle.carton_tree.specs.Rules.{IsLeast}
 use Rattle.carton_tree.specs.Trees.{Tree, joint_of, Hangs}
 use Rattle.carton_catalogue.specs.declared.catalogue.Catalogue.{Catalogue}
 use Rattle.carton_catalogue.specs.declared.fit_error.FitError.{FitError}
-use Rattle.carton_catalogue.specs.declared.fit_error.FitError.TheVariants.{OtherCreases, NotAJoint, BadWindow, BandTooWide, ProbeOutside}
+use Rattle.carton_catalogue.specs.declared.fit_error.FitError.TheVariants.{OtherCreases, NotAJoint, BadWindow}
+use Rattle.carton_catalogue.specs.declared.fit_error.FitError.TheVariants.{BandTooWide, ProbeOutside}
 use Rattle.carton_catalogue.specs.declared.fit_error.Misfit.{Misfit}
 use Rattle.carton_catalogue.specs.declared.fit_error.Misfit.TheVariants.{Joint, Window, Band, Probe}
 
@@ -40,9 +42,11 @@ pub record HasRoomFor (band : ℕ) (f : Fold) : Type 0 where
   pub under : IsFold (with_eighths (neg_ℤ (pos band)) f)
   pub over : IsFold (with_eighths (pos band) f)
 
--- the joint at place k has room for the band in each state of the guide's window, up to the end of its last move
+-- the joint at place k has room for the band in each state of the guide's window, up to the end of its last
+-- move
 abbrev pub KeepsBand : List State → Guide → ℕ → Type 0
-KeepsBand states g k = (i : ℕ) → g.first ≤ i → i ≤ g.last + 1 → IfSome (slice_get states i) (λ s. HasRoomFor g.band (fold_in s k))
+KeepsBand states g k = (i : ℕ) → g.first ≤ i → i ≤ g.last + 1
+    → IfSome (slice_get states i) (λ s. HasRoomFor g.band (fold_in s k))
 
 -- the flat place lies in the shrunk panel of this shape
 abbrev pub IsOnShape : Shape → Point → Type 0
@@ -71,8 +75,10 @@ IsOutside IsInside probes p = IsSomeAnd (slice_get probes p) (λ place. ¬ (IsIn
 abbrev pub IsMisfit : Tree → List State → Guide → Misfit → Type 0
 IsMisfit t states g Joint = (flap k : ℕ) → ¬ (IsGuided t g.edge.0 flap k)
 IsMisfit t states g Window = (flap k : ℕ) × IsGuided t g.edge.0 flap k × ¬ (HasWindow states g)
-IsMisfit t states g Band = (flap k : ℕ) × IsGuided t g.edge.0 flap k × HasWindow states g × ¬ (KeepsBand states g k)
-IsMisfit t states g (Probe p) = (flap k : ℕ) × IsGuided t g.edge.0 flap k × HasWindow states g × KeepsBand states g k × IsLeast (IsOutside (IsOnPanel t flap) g.probes) p
+IsMisfit t states g Band = (flap k : ℕ) × IsGuided t g.edge.0 flap k × HasWindow states g
+    × ¬ (KeepsBand states g k)
+IsMisfit t states g (Probe p) = (flap k : ℕ) × IsGuided t g.edge.0 flap k × HasWindow states g
+    × KeepsBand states g k × IsLeast (IsOutside (IsOnPanel t flap) g.probes) p
 
 -- the plan has the task's creases
 abbrev pub HasCreases : Task → Plan → Type 0
@@ -84,9 +90,10 @@ pub record Fits (t : Tree) (task : Task) (plan : Plan) (c : Catalogue) : Type 0 
   pub guides : All (FitsGuide t plan.states) c.guides
 
 -- guide n is the first that doesn't fit, and this is why
-pub record IsFirstMisfit (t : Tree) (states : List State) (guides : List Guide) (n : ℕ) (m : Misfit) : Type 0 where
-  pub misfit : IsSomeAnd (slice_get guides n) (λ g. IsMisfit t states g m)
-  pub before : (i : ℕ) → i < n → IfSome (slice_get guides i) (FitsGuide t states)
+pub record IsFirstMisfit (t : Tree) (states : List State) (guides : List Guide) (n : ℕ) (m : Misfit) : Type 0
+  where
+    pub misfit : IsSomeAnd (slice_get guides n) (λ g. IsMisfit t states g m)
+    pub before : (i : ℕ) → i < n → IfSome (slice_get guides i) (FitsGuide t states)
 
 -- the plan has the task's creases, and guide n is the first that doesn't fit
 abbrev pub IsRefusedBy : Tree → Task → Plan → Catalogue → ℕ → Misfit → Type 0

@@ -2,7 +2,10 @@ ghost use Rattle.std.specs.Prelude.{◌≡◌, ◌≤◌, All, length, unsigned_
 ghost use Rattle.std.specs.List.{range_with_len};
 ghost use Rattle.carton_base.specs.Steps.{entries_from};
 ghost use Rattle.carton_lines.specs.Lines.{Gives};
-ghost use Rattle.carton_catalogue.specs.CatalogueLines.{is_span as is_span_in, is_body as is_body_in, body as body_in, cuboid_of, moved as moved_in, box_of_row, body_of_row, stroke_in, bodies_in, row_in};
+ghost use Rattle.carton_catalogue.specs.CatalogueLines.{is_span as is_span_in, is_body as is_body_in};
+ghost use Rattle.carton_catalogue.specs.CatalogueLines.{body as body_in, cuboid_of, moved as moved_in};
+ghost use Rattle.carton_catalogue.specs.CatalogueLines.{box_of_row, body_of_row, stroke_in, bodies_in};
+ghost use Rattle.carton_catalogue.specs.CatalogueLines.{row_in};
 ghost use Rattle.carton_catalogue.specs.declared.limits.TheConstants.{FARTHEST_CORNER, MOST_BODIES};
 
 use crate::limits::{FARTHEST_CORNER, MOST_BODIES};
@@ -96,7 +99,8 @@ fn row_bodies(alloc: Global, numbers: &[i32], count: u16) -> Result<Vec<Cuboid>,
     requires numbers { length numbers.now ≡ 9 }
     requires near { All (λ z. unsigned_abs z ≤ FARTHEST_CORNER) numbers.now }
     requires count { count ≤ MOST_BODIES }
-    ensures { Gives (λ v. v.items) result (entries_from (λ i. body_of_row numbers.now) 0 (range_with_len 0 count)) }
+    ensures { Gives (λ v. v.items) result
+        (entries_from (λ i. body_of_row numbers.now) 0 (range_with_len 0 count)) }
 {
     let mut found = Vec::new(alloc);
     for place in 0..count {

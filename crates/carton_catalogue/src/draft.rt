@@ -1,6 +1,9 @@
 ghost use Rattle.std.specs.Prelude.{◌≡◌, ◌++◌, Ok};
 ghost use Rattle.carton_lines.specs.Lines.{Gives};
-ghost use Rattle.carton_catalogue.specs.Catalogues.{new_draft, with_stroke as with_stroke_in, with_bodies as with_bodies_in, with_guide as with_guide_in, add as add_in, told as told_in};
+ghost use Rattle.carton_catalogue.specs.Catalogues.{new_draft, with_stroke as with_stroke_in};
+ghost use Rattle.carton_catalogue.specs.Catalogues.{with_bodies as with_bodies_in};
+ghost use Rattle.carton_catalogue.specs.Catalogues.{with_guide as with_guide_in, add as add_in};
+ghost use Rattle.carton_catalogue.specs.Catalogues.{told as told_in};
 
 use crate::catalogue::Catalogue;
 use crate::catalogue_error::CatalogueError;

@@ -1,17 +1,15 @@
-ghost use Rattle.std.specs.Prelude.{◌≡◌, ◌↔◌, ◌<◌, ◌≤◌, All, IsTrue, length, unsigned_abs};
-ghost use Rattle.carton_base.specs.declared.limits.TheConstants.{MOST_JOINTS};
+ghost use Rattle.std.specs.Prelude.{◌≡◌, ◌↔◌, ◌≤◌, All, IsTrue, length};
 ghost use Rattle.carton_catalogue.specs.declared.limits.TheConstants.{MOST_GUIDES, MOST_PROBES};
 ghost use Rattle.carton_model.specs.Dielines.{IsNear};
-ghost use Rattle.carton_model.specs.HalfTurns.{stop_fold};
-ghost use Rattle.carton_model.specs.Moves.{stop_of};
-ghost use Rattle.carton_place.specs.States.{fold_in};
 ghost use Rattle.carton_text.specs.PlanRules.{IsPlan};
 ghost use Rattle.carton_catalogue.specs.CatalogueRules.{IsCatalogue, IsGuide};
-ghost use Rattle.carton_catalogue.specs.Fits.{HasWindow, IsFold, with_eighths, HasRoomFor, KeepsBand, IsOnShape, IsFit};
-ghost use Rattle.carton_catalogue.specs.FitSteps.{IsFlapAnswer, IsProbesAnswer, IsGuideAnswer, IsGuidesAnswer};
+ghost use Rattle.carton_catalogue.specs.Fits.{IsOnShape, IsFit};
+ghost use Rattle.carton_catalogue.specs.FitSteps.{IsFlapAnswer, IsProbesAnswer, IsGuideAnswer};
+ghost use Rattle.carton_catalogue.specs.FitSteps.{IsGuidesAnswer};
 
 use crate::catalogue::Catalogue;
 use crate::fit_error::{FitError, Misfit};
+use crate::windows::{has_window, keeps_band};
 use carton_base::{EdgeId, Guide, PanelId, Point, State, Triple};
 use carton_panels::PanelShape;
 use carton_text::{Plan, Task};
@@ -33,60 +31,6 @@ fn flap_of(carton: &Carton, edge: EdgeId) -> Option<Flap>
     let joint = carton.joint(panel)?;
     let place = joint.turn.place?;
     Some(Flap { panel, place })
-}
-
-// Whether the window is one of moves of the states.
-fn has_window(states: &[State], guide: &Guide) -> bool
-    ensures { IsTrue result ↔ HasWindow states.now guide.now }
-{
-    guide.first <= guide.last && usize::from(guide.last) + 1 < states.len()
-}
-
-// The fold of a stop with so many eighths of a right angle more, over eight times the grid.
-fn with_more(stop: i8, grid: u8, eighths: i32) -> i32
-    requires { unsigned_abs eighths ≤ 255 }
-    ensures { result ≡ (with_eighths eighths (stop_fold stop grid)).num }
-{
-    8 * i32::from(stop) + eighths * i32::from(grid)
-}
-
-// Whether that fold lies from -2 to 2.
-fn is_fold(stop: i8, grid: u8, eighths: i32) -> bool
-    requires { unsigned_abs eighths ≤ 255 }
-    ensures { IsTrue result ↔ IsFold (with_eighths eighths (stop_fold stop grid)) }
-{
-    with_more(stop, grid, eighths).unsigned_abs() <= 2 * (8 * u32::from(grid))
-}
-
-fn stop_at(state: &State, place: u8) -> i8
-    requires { place < MOST_JOINTS }
-    ensures { result ≡ stop_of state.now place }
-{
-    state.stops[usize::from(place)]
-}
-
-// Whether the joint has room for a band of so many eighths on either side.
-fn has_room(band: u8, place: u8, state: &State) -> bool
-    requires { place < MOST_JOINTS }
-    ensures { IsTrue result ↔ HasRoomFor band (fold_in state.now place) }
-{
-    let stop = stop_at(state, place);
-    let band = i32::from(band);
-    is_fold(stop, state.grid, -band) && is_fold(stop, state.grid, band)
-}
-
-// Whether the joint has room for the band in every state of the window.
-fn keeps_band(states: &[State], guide: &Guide, place: u8) -> bool
-    requires window { HasWindow states.now guide.now }
-    requires place { place < MOST_JOINTS }
-    ensures { IsTrue result ↔ KeepsBand states.now guide.now place }
-{
-    for i in usize::from(guide.first)..usize::from(guide.last) + 2 {
-        if !has_room(guide.band, place, &states[i]) {
-            return false;
-        }
-    }
-    true
 }
 
 // Whether the probe lies in the shrunk panel.

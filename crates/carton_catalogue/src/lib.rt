@@ -13,6 +13,7 @@ mod guides;
 mod limits;
 mod lines;
 mod values;
+mod windows;
 
 pub use catalogue::Catalogue;
 pub use catalogue_error::CatalogueError;

@@ -11,14 +11,12 @@ fn guide(
     band: u8,
     probe: Point,
 ) -> Result<Guide, AllocError> {
-    let mut probes = Listed::new(alloc);
-    probes.push(probe)?;
     Ok(Guide {
         edge: EdgeId(6),
         first,
         last,
         band,
-        probes,
+        probes: Listed::from_vec(vec![in alloc; probe]?),
     })
 }
 
@@ -34,40 +32,37 @@ fn over_y(x: (i32, i32), y: (i32, i32), z: (i32, i32)) -> Cuboid {
     }
 }
 
-#[test]
-fn two_rails(rt: HostRuntime) -> Result<(), AllocError> {
-    let alloc = rt.alloc();
-    let mut bodies = Listed::new(alloc);
-    bodies.push(LOWER_RAIL)?;
-    bodies.push(UPPER_RAIL)?;
-    let mut guides = Listed::new(alloc);
-    guides.push(guide(alloc, 3, 3, 2, Point { x: 190, y: 50 })?)?;
+// Whether the text is read as this stroke, these bodies and this guide alone.
+fn is_read(
+    alloc: Global,
+    text: &str,
+    stroke: [i32; 3],
+    bodies: &[Cuboid],
+    guide: Guide,
+) -> Result<bool, AllocError> {
     let wanted = Catalogue {
-        stroke: [0, -200, 0],
-        bodies,
-        guides,
+        stroke,
+        bodies: Listed::from_vec(Vec::from_slice(alloc, bodies)?),
+        guides: Listed::from_vec(vec![in alloc; guide]?),
     };
-    assert!(rt; read_catalogue(alloc, RAILS.as_bytes()) == Ok(wanted));
-    Ok(())
+    Ok(read_catalogue(alloc, text.as_bytes()) == Ok(wanted))
 }
 
 #[test]
-fn a_row_of_three_bodies(rt: HostRuntime) -> Result<(), AllocError> {
+fn two_rails_and_a_row_of_three_bodies(rt: HostRuntime) -> Result<(), AllocError> {
     let alloc = rt.alloc();
+    let rails = guide(alloc, 3, 3, 2, Point { x: 190, y: 50 })?;
+    let bodies = [LOWER_RAIL, UPPER_RAIL];
+    assert!(rt; is_read(alloc, RAILS, [0, -200, 0], &bodies, rails)?);
     let text =
         "# a row\r\n\r\ncarton catalogue 1\r\nguide 6 0 0 1 150 50\n# more\nrow 3 10 0 -7 0 5 1 6 2 7\r\nend\n\n# done";
-    let mut bodies = Listed::new(alloc);
-    bodies.push(over_y((0, 5), (1, 6), (2, 7)))?;
-    bodies.push(over_y((10, 15), (1, 6), (-5, 0)))?;
-    bodies.push(over_y((20, 25), (1, 6), (-12, -7)))?;
-    let mut guides = Listed::new(alloc);
-    guides.push(guide(alloc, 0, 0, 1, Point { x: 150, y: 50 })?)?;
-    let wanted = Catalogue {
-        stroke: [0, 0, 0],
-        bodies,
-        guides,
-    };
-    assert!(rt; read_catalogue(alloc, text.as_bytes()) == Ok(wanted));
+    let row = [
+        over_y((0, 5), (1, 6), (2, 7)),
+        over_y((10, 15), (1, 6), (-5, 0)),
+        over_y((20, 25), (1, 6), (-12, -7)),
+    ];
+    let first = guide(alloc, 0, 0, 1, Point { x: 150, y: 50 })?;
+    assert!(rt; is_read(alloc, text, [0, 0, 0], &row, first)?);
     Ok(())
 }
 

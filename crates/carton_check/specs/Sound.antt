@@ -34,7 +34,8 @@ folds_between s r n d k = joint_fold (stop_of s k) (stop_of r k) s.grid n d
 
 -- P of the folds at every moment of every move
 abbrev pub Throughout : List State → ((ℕ → Fold) → Type 0) → Type 0
-Throughout states P = (i : ℕ) (s r : State) → IsMove states i s r → (n d : ℕ) → IsMoment n d → P (folds_between s r n d)
+Throughout states P = (i : ℕ) (s r : State) → IsMove states i s r → (n d : ℕ) → IsMoment n d
+    → P (folds_between s r n d)
 
 -- P of the folds of the first state, and of those at every moment of every move
 pub record FromTheFirst (states : List State) (P : (ℕ → Fold) → Type 0) : Type 0 where
@@ -45,15 +46,18 @@ pub record FromTheFirst (states : List State) (P : (ℕ → Fold) → Type 0) : 
 abbrev pub NoneMeet : Tree → (ℕ → Fold) → Type 0
 NoneMeet t folds = (a b : ℕ) → AreStrangers t a b → ¬ (AreMeeting t folds a b)
 
--- the plan is sound: its creases are the task's, it goes from the start to the target by moves of the stride at most, and no two panels
+-- the plan is sound: its creases are the task's, it goes from the start to the target by moves of the stride
+-- at most, and no two panels
 -- that share no crease meet, at the first state and at every moment of every move
 pub record IsSound (t : Tree) (task : Task) (plan : Plan) : Type 0 where
   pub creases : plan.creases ≡ task.creases
   pub start : IsFirst plan.states task.start
   pub target : IsLast plan.states task.target
-  pub moves : (i : ℕ) (s r : State) → IsMove plan.states i s r → IsStrideFrom (length task.creases) task.stride s r
+  pub moves : (i : ℕ) (s r : State) → IsMove plan.states i s r
+      → IsStrideFrom (length task.creases) task.stride s r
   pub apart : FromTheFirst plan.states (NoneMeet t)
 
--- at the first state and throughout, all panels that share no crease are parted by more than so many halves of a unit
+-- at the first state and throughout, all panels that share no crease are parted by more than so many halves
+-- of a unit
 abbrev pub KeepsApart : Tree → List State → ℤ → Type 0
 KeepsApart t states halves = FromTheFirst states (λ folds. AreAllParted t folds halves)

@@ -12,7 +12,8 @@ use Rattle.carton_check.specs.Sound.{IsMove, IsStrideFrom}
 -- the first move that isn't fine, None where all are
 abbrev pub IsFirstWide : ℕ → ℕ → List State → Option ℕ → Type 0
 IsFirstWide joints stride states None = (i : ℕ) → IsFineMove joints stride states i
-IsFirstWide joints stride states (Some i) = ¬ (IsFineMove joints stride states i) × ((j : ℕ) → j < i → IsFineMove joints stride states j)
+IsFirstWide joints stride states (Some i) = ¬ (IsFineMove joints stride states i)
+    × ((j : ℕ) → j < i → IsFineMove joints stride states j)
 
 -- states of one grid, each two neighbours of which are a move
 pub record AreMoves (states : List State) : Type 0 where

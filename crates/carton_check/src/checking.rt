@@ -47,7 +47,9 @@ pub fn check(carton: &Carton, task: &Task, plan: &Plan) -> Checked
     requires plan { IsPlan plan.now }
     ensures checked { IsChecked carton.now task.now plan.now result }
     ensures sound { (moves : ℕ) → result ≡ Checked.Holds moves → IsSound carton.now task.now plan.now }
-    ensures slack_clear { HasMoves task.now plan.now → KeepsApart carton.now plan.now.states (pos 2 *ℤ pos task.now.slack) → (moves : ℕ) × (result ≡ Checked.Holds moves) }
+    ensures slack_clear { HasMoves task.now plan.now
+        → KeepsApart carton.now plan.now.states (pos 2 *ℤ pos task.now.slack) → (moves : ℕ)
+        × (result ≡ Checked.Holds moves) }
 {
     keeps_rules(carton);
     match difference(task, plan) {

@@ -9,3 +9,4 @@ mod strides;
 
 pub use checked::Checked;
 pub use checking::check;
+pub use strides::move_at;

@@ -9,7 +9,8 @@ use crate::{Enclose, Space};
 fn signed<E: Enclose>(c: i8, e: E) -> E
     requires sign { IsSign c }
     requires room { E.size e ≤ 2 ^ 84 }
-    ensures holds { (n d : ℕ) (x : ℤ) (w : ℕ) → IsMoment n d → 0 < w → E.holds e n d x w → E.holds result n d (c *ℤ x) w }
+    ensures holds { (n d : ℕ) (x : ℤ) (w : ℕ) → IsMoment n d → 0 < w → E.holds e n d x w
+        → E.holds result n d (c *ℤ x) w }
     ensures size { E.size result ≤ E.size e }
     ensures spread { E.spread result ≤ E.spread e }
 {

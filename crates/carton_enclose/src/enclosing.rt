@@ -1,7 +1,9 @@
-ghost use Rattle.std.specs.Prelude.{◌≡◌, ℕ, ◌^◌, ◌<◌, ◌≤◌, ◌+◌, ◌*◌, max, ℤ, pos, ◌-ℤ◌, ◌*ℤ◌, ◌≤ℤ◌, unsigned_abs};
+ghost use Rattle.std.specs.Prelude.{◌≡◌, ℕ, ◌^◌, ◌<◌, ◌≤◌, ◌+◌, ◌*◌, max, ℤ, pos, ◌-ℤ◌, ◌*ℤ◌, ◌≤ℤ◌};
+ghost use Rattle.std.specs.Prelude.{unsigned_abs};
 ghost use Rattle.carton_base.specs.Rounding.{unit, IsBetween};
 ghost use Rattle.carton_base.specs.Moments.{IsMoment};
-ghost use Rattle.carton_enclose.specs.Held.{size_of, spread_of, Meet, HoldsWhole, HoldsAll, HoldsRamp, HoldsSum, HoldsDifference, HoldsNegation, HoldsProduct};
+ghost use Rattle.carton_enclose.specs.Held.{size_of, spread_of, Meet, HoldsWhole, HoldsAll, HoldsRamp};
+ghost use Rattle.carton_enclose.specs.Held.{HoldsSum, HoldsDifference, HoldsNegation, HoldsProduct};
 
 use carton_base::Bounds;
 
@@ -37,7 +39,8 @@ pub trait Enclose: Copy {
         ensures size { size result ≤ size_of all.lo all.hi }
         ensures spread { spread result ≤ spread_of all.lo all.hi };
 
-    /// A number that is within `all` and is a number of `start` plus t times one of `slope`, at every moment t.
+    /// A number that is within `all` and is a number of `start` plus t times one of `slope`, at
+    /// every moment t.
     fn ramp(start: Bounds, slope: Bounds, all: Bounds) -> Self
         requires start { size_of start.lo start.hi ≤ 2 ^ 84 }
         requires slope { size_of slope.lo slope.hi ≤ 2 ^ 84 }
@@ -75,17 +78,20 @@ pub trait Enclose: Copy {
         requires { size self * size other ≤ 2 ^ 125 }
         ensures holds { HoldsProduct holds self other result }
         ensures size { size result * 2 ^ 40 ≤ size self * size other + 2 ^ 40 }
-        ensures spread { spread result * 2 ^ 40 ≤ size self * spread other + size other * spread self + 2 * 2 ^ 40 };
+        ensures spread { spread result * 2 ^ 40 ≤ size self * spread other + size other * spread self
+            + 2 * 2 ^ 40 };
 
     /// A bound below the number at every moment.
     fn low(self) -> i128
         ensures value { result ≡ low_of self }
-        ensures below { (n d : ℕ) (x : ℤ) (v : ℕ) → IsMoment n d → 0 < v → holds self n d x v → (result *ℤ pos v) ≤ℤ (x *ℤ unit) };
+        ensures below { (n d : ℕ) (x : ℤ) (v : ℕ) → IsMoment n d → 0 < v → holds self n d x v
+            → (result *ℤ pos v) ≤ℤ (x *ℤ unit) };
 
     /// A bound above the number at every moment.
     fn high(self) -> i128
         ensures value { result ≡ high_of self }
-        ensures above { (n d : ℕ) (x : ℤ) (v : ℕ) → IsMoment n d → 0 < v → holds self n d x v → (x *ℤ unit) ≤ℤ (result *ℤ pos v) };
+        ensures above { (n d : ℕ) (x : ℤ) (v : ℕ) → IsMoment n d → 0 < v → holds self n d x v
+            → (x *ℤ unit) ≤ℤ (result *ℤ pos v) };
 
     /// How far apart the two bounds are.
     fn spread(self) -> i128
@@ -93,10 +99,12 @@ pub trait Enclose: Copy {
         ensures natural { result ≡ pos (spread self) };
 
     // What is held at any moment lies between the two bounds.
-    ghost enclosed: { (e : Self) (n d : ℕ) (x : ℤ) (v : ℕ) → IsMoment n d → 0 < v → holds e n d x v → IsBetween (low_of e) (high_of e) x v };
+    ghost enclosed: { (e : Self) (n d : ℕ) (x : ℤ) (v : ℕ) → IsMoment n d → 0 < v → holds e n d x v
+        → IsBetween (low_of e) (high_of e) x v };
 
     // Whether a fraction is held doesn't depend on how it is written.
-    ghost same: { (e : Self) (n d : ℕ) (x y : ℤ) (v w : ℕ) → IsMoment n d → 0 < v → 0 < w → x *ℤ pos w ≡ y *ℤ pos v → holds e n d x v → holds e n d y w };
+    ghost same: { (e : Self) (n d : ℕ) (x y : ℤ) (v w : ℕ) → IsMoment n d → 0 < v → 0 < w
+        → x *ℤ pos w ≡ y *ℤ pos v → holds e n d x v → holds e n d y w };
 
     // The size and the spread are those of the two bounds, so the low bound is at most the high one.
     ghost sized: { (e : Self) → size e ≡ size_of (low_of e) (high_of e) };

@@ -28,11 +28,15 @@ pub fn turn_pair<E: Enclose>(r: E, z: E, cos: E, sin: E) -> (E, E)
     ensures second_holds { (n d : ℕ) (x y c s : ℤ) (v w : ℕ) → IsMoment n d → 0 < v → 0 < w
         → E.holds cos n d c v → E.holds sin n d s v → E.holds r n d x w → E.holds z n d y w
         → E.holds result.1 n d (s *ℤ x +ℤ c *ℤ y) (v * w) }
-    ensures first_size { E.size result.0 * 2 ^ 40 ≤ max (E.size cos) (E.size sin) * (E.size r + E.size z) + 2 * 2 ^ 40 }
-    ensures second_size { E.size result.1 * 2 ^ 40 ≤ max (E.size cos) (E.size sin) * (E.size r + E.size z) + 2 * 2 ^ 40 }
-    ensures first_spread { E.spread result.0 * 2 ^ 40 ≤ max (E.size cos) (E.size sin) * (E.spread r + E.spread z)
+    ensures first_size { E.size result.0 * 2 ^ 40 ≤ max (E.size cos) (E.size sin) * (E.size r + E.size z)
+        + 2 * 2 ^ 40 }
+    ensures second_size { E.size result.1 * 2 ^ 40 ≤ max (E.size cos) (E.size sin) * (E.size r + E.size z)
+        + 2 * 2 ^ 40 }
+    ensures first_spread { E.spread result.0 * 2 ^ 40
+        ≤ max (E.size cos) (E.size sin) * (E.spread r + E.spread z)
         + max (E.spread cos) (E.spread sin) * (E.size r + E.size z) + 4 * 2 ^ 40 }
-    ensures second_spread { E.spread result.1 * 2 ^ 40 ≤ max (E.size cos) (E.size sin) * (E.spread r + E.spread z)
+    ensures second_spread { E.spread result.1 * 2 ^ 40
+        ≤ max (E.size cos) (E.size sin) * (E.spread r + E.spread z)
         + max (E.spread cos) (E.spread sin) * (E.size r + E.size z) + 4 * 2 ^ 40 }
 {
     let cr = scaled(cos, r);

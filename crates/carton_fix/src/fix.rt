@@ -1,4 +1,5 @@
-ghost use Rattle.std.specs.Prelude.{◌≡◌, refl, ◌^◌, ◌≤◌, ◌*◌, ◌≤ℤ◌};
+ghost use Rattle.std.specs.Prelude.{◌≡◌, refl, ◌^◌, ◌≤◌, ◌*◌, ◌*ℤ◌, ◌≤ℤ◌, unsigned_abs};
+ghost use Rattle.std.specs.Int.{int_min, int_max};
 ghost use Rattle.carton_base.specs.Rounding.{unit, IsFloor, IsCeil, IsBetween};
 ghost use Rattle.carton_enclose.specs.Held.{size_of, spread_of};
 ghost use Rattle.carton_fix.specs.Corners.{least_corner_of, greatest_corner_of};
@@ -55,10 +56,7 @@ impl Enclose for Fix {
     }
 
     fn sub(self, other: Self) -> Self {
-        Fix {
-            lo: self.lo - other.hi,
-            hi: self.hi - other.lo,
-        }
+        self.add(other.neg())
     }
 
     fn neg(self) -> Self {
@@ -69,7 +67,7 @@ impl Enclose for Fix {
     }
 
     fn mul(self, other: Self) -> Self {
-        outward(least_corner(self, other), greatest_corner(self, other))
+        outward(corners(self, other))
     }
 
     fn low(self) -> i128 {
@@ -93,39 +91,42 @@ impl Enclose for Fix {
     ghost apart = { λ e. spread_is_gap e.lo e.hi e.ordered };
 }
 
-// The least of the four products of an end of a and an end of b.
-fn least_corner(a: Fix, b: Fix) -> i128
-    requires { size_of a.lo a.hi * size_of b.lo b.hi ≤ 2 ^ 125 }
-    ensures { result ≡ least_corner_of a.lo a.hi b.lo b.hi }
+// The least and the greatest of the two products of x and an end of b.
+fn times(x: i128, b: Fix) -> Bounds
+    requires { unsigned_abs x * size_of b.lo b.hi ≤ 2 ^ 125 }
+    ensures least { result.lo ≡ int_min (x *ℤ b.lo) (x *ℤ b.hi) }
+    ensures greatest { result.hi ≡ int_max (x *ℤ b.lo) (x *ℤ b.hi) }
 {
-    let ll = a.lo * b.lo;
-    let lh = a.lo * b.hi;
-    let hl = a.hi * b.lo;
-    let hh = a.hi * b.hi;
-    ll.min(lh).min(hl).min(hh)
+    let low = x * b.lo;
+    let high = x * b.hi;
+    Bounds {
+        lo: low.min(high),
+        hi: low.max(high),
+    }
 }
 
-// The greatest of the four products of an end of a and an end of b.
-fn greatest_corner(a: Fix, b: Fix) -> i128
+// The least and the greatest of the four products of an end of a and an end of b.
+fn corners(a: Fix, b: Fix) -> Bounds
     requires { size_of a.lo a.hi * size_of b.lo b.hi ≤ 2 ^ 125 }
-    ensures { result ≡ greatest_corner_of a.lo a.hi b.lo b.hi }
+    ensures least { result.lo ≡ least_corner_of a.lo a.hi b.lo b.hi }
+    ensures greatest { result.hi ≡ greatest_corner_of a.lo a.hi b.lo b.hi }
 {
-    let ll = a.lo * b.lo;
-    let lh = a.lo * b.hi;
-    let hl = a.hi * b.lo;
-    let hh = a.hi * b.hi;
-    ll.max(lh).max(hl).max(hh)
+    let low = times(a.lo, b);
+    let high = times(a.hi, b);
+    Bounds {
+        lo: low.lo.min(high.lo),
+        hi: low.hi.max(high.hi),
+    }
 }
 
-// The numbers from low to high, in units of 2^-80: each end rounded outward to units of 2^-40.
-fn outward(low: i128, high: i128) -> Fix
-    requires ordered { low ≤ℤ high }
-    requires room { size_of low high ≤ 2 ^ 125 }
-    ensures low { IsFloor low unit result.lo }
-    ensures high { IsCeil high unit result.hi }
+// The same numbers, in units of 2^-80, with each end rounded outward to units of 2^-40.
+fn outward(all: Bounds) -> Fix
+    requires { size_of all.lo all.hi ≤ 2 ^ 125 }
+    ensures low { IsFloor all.lo unit result.lo }
+    ensures high { IsCeil all.hi unit result.hi }
 {
     Fix {
-        lo: floor_div(low, UNIT),
-        hi: ceil_div(high, UNIT),
+        lo: floor_div(all.lo, UNIT),
+        hi: ceil_div(all.hi, UNIT),
     }
 }

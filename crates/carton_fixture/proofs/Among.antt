@@ -14,9 +14,11 @@ use Rattle.carton_fixture.specs.Fixtures.{HoldAll, IsUnheld}
 
 -- each chosen box of the one list is a chosen box of the other
 abbrev pub AreAmong : List Cuboid → List Bool → List Cuboid → List Bool → Type 0
-AreAmong boxes chosen more picked = (k : ℕ) (b : Cuboid) → IsChosen boxes chosen k b → (j : ℕ) × IsChosen more picked j b
+AreAmong boxes chosen more picked = (k : ℕ) (b : Cuboid) → IsChosen boxes chosen k b → (j : ℕ)
+    × IsChosen more picked j b
 
-pub held_by_more : (t : Tree) (states : List State) (g : Guide) (stroke : List ℤ) (boxes : List Cuboid) (chosen : List Bool) (more : List Cuboid) (picked : List Bool) → AreAmong boxes chosen more picked
+pub held_by_more : (t : Tree) (states : List State) (g : Guide) (stroke : List ℤ) (boxes : List Cuboid)
+    (chosen : List Bool) (more : List Cuboid) (picked : List Bool) → AreAmong boxes chosen more picked
     → IsHeld t states g stroke boxes chosen → IsHeld t states g stroke more picked
 held_by_more t states g stroke boxes chosen more picked among h = (
   h.0,
@@ -28,8 +30,10 @@ held_by_more t states g stroke boxes chosen more picked among h = (
       (x.0, x.1, (y.0, x.2.1, y.1, x.2.3)),
 )
 
-pub loose_in_fewer : (t : Tree) (states : List State) (g : Guide) (stroke : List ℤ) (boxes : List Cuboid) (chosen : List Bool) (more : List Cuboid) (picked : List Bool) (gap : ℤ) (end : End) (i : ℕ) (m : Moment)
-    → AreAmong boxes chosen more picked → IsLooseAt t states g stroke more picked gap end i m → IsLooseAt t states g stroke boxes chosen gap end i m
+pub loose_in_fewer : (t : Tree) (states : List State) (g : Guide) (stroke : List ℤ) (boxes : List Cuboid)
+    (chosen : List Bool) (more : List Cuboid) (picked : List Bool) (gap : ℤ) (end : End) (i : ℕ) (m : Moment)
+    → AreAmong boxes chosen more picked → IsLooseAt t states g stroke more picked gap end i m
+    → IsLooseAt t states g stroke boxes chosen gap end i m
 loose_in_fewer t states g stroke boxes chosen more picked gap end i m among h =
     let at = h.4.3 in (
       h.0,
@@ -52,10 +56,19 @@ loose_in_fewer t states g stroke boxes chosen more picked gap end i m among h =
       ),
     )
 
-pub hold_all_by_more : (t : Tree) (plan : Plan) (guides : List Guide) (stroke : List ℤ) (boxes : List Cuboid) (chosen : List Bool) (more : List Cuboid) (picked : List Bool) → AreAmong boxes chosen more picked
+pub hold_all_by_more : (t : Tree) (plan : Plan) (guides : List Guide) (stroke : List ℤ) (boxes : List Cuboid)
+    (chosen : List Bool) (more : List Cuboid) (picked : List Bool) → AreAmong boxes chosen more picked
     → HoldAll t plan guides stroke boxes chosen → HoldAll t plan guides stroke more picked
-hold_all_by_more t plan guides stroke boxes chosen more picked among h = λ k d lt. held_by_more t plan.states _ stroke boxes chosen more picked among (h k d lt)
+hold_all_by_more t plan guides stroke boxes chosen more picked among h =
+    λ k d lt. held_by_more t plan.states _ stroke boxes chosen more picked among (h k d lt)
 
-pub unheld_in_fewer : (t : Tree) (plan : Plan) (guides : List Guide) (stroke : List ℤ) (boxes : List Cuboid) (chosen : List Bool) (more : List Cuboid) (picked : List Bool) (slack : ℕ) (u : UnheldEnd) → AreAmong boxes chosen more picked
+pub unheld_in_fewer : (t : Tree) (plan : Plan) (guides : List Guide) (stroke : List ℤ) (boxes : List Cuboid)
+    (chosen : List Bool) (more : List Cuboid) (picked : List Bool) (slack : ℕ) (u : UnheldEnd)
+    → AreAmong boxes chosen more picked
     → IsUnheld t plan guides stroke more picked slack u → IsUnheld t plan guides stroke boxes chosen slack u
-unheld_in_fewer t plan guides stroke boxes chosen more picked slack u among h = (h.0, h.1, loose_in_fewer t plan.states h.0 stroke boxes chosen more picked (pos slack) u.end u.step u.moment among h.2)
+unheld_in_fewer t plan guides stroke boxes chosen more picked slack u among h = (
+  h.0,
+  h.1,
+  loose_in_fewer t plan.states h.0 stroke boxes chosen more picked (pos slack) u.end u.step
+      u.moment among h.2,
+)

@@ -1,5 +1,6 @@
 -- A catalogue that fits a plan that does what the task asks is ready to be asked.
-use Rattle.std.proofs.Common.{◌≡◌, ℕ, List, slice_get, Option, None, Some, IfSome, IsSomeAnd, pos, refl, sym, subst}
+use Rattle.std.proofs.Common.{◌≡◌, ℕ, List, slice_get, Option, None, Some, IfSome, IsSomeAnd, pos, refl, sym}
+use Rattle.std.proofs.Common.{subst}
 use Rattle.std.proofs.lemmas.List.Elements.{All-weaker}
 use Rattle.std.proofs.lemmas.Option.{get_or_from_slice_get}
 use Rattle.carton_base.specs.declared.bodies.Guide.{Guide}
@@ -28,19 +29,25 @@ use Rattle.carton_tree.specs.Trees.{Tree}
 use Rattle.carton_fixture.specs.Steps.{IsReady}
 
 -- room for a band in eighths is room for it in stops
-band_at : (s : State) (k band : ℕ) (end : End) → AreStops s.grid band (stop_of s k) → IsStop s.grid (shifted end (band_stops s.grid band) (stop_of s k))
+band_at : (s : State) (k band : ℕ) (end : End) → AreStops s.grid band (stop_of s k)
+    → IsStop s.grid (shifted end (band_stops s.grid band) (stop_of s k))
 band_at s k band Under h = h.under
 band_at s k band Over h = h.over
 
 stays_in_band : (states : List State) (g : Guide) (k : ℕ) → KeepsBand states g k → StaysInBand states g k
-stays_in_band states g k h i s from upto is = λ end. band_at s k g.band end (ends_are_stops s k g.band (subst (λ o. IfSome o (λ r. HasRoomFor g.band (fold_in r k))) is (h i from upto)))
+stays_in_band states g k h i s from upto is =
+    λ end. band_at s k g.band end
+    (ends_are_stops s k g.band (subst (λ o. IfSome o (λ r. HasRoomFor g.band (fold_in r k))) is
+    (h i from upto)))
 
 on_panel : (t : Tree) (p : ℕ) (place : Point) → IsOnPanelOfFits t p place → IsOnPanel t p place
 on_panel t p place h = by_shape (slice_get t.panels p) refl h
   where
-    by_shape : (o : Option Shape) → slice_get t.panels p ≡ o → IsSomeAnd o (λ s. InShrunk s.margin s.places place.x place.y (pos 1)) → IsOnPanel t p place
+    by_shape : (o : Option Shape) → slice_get t.panels p ≡ o
+        → IsSomeAnd o (λ s. InShrunk s.margin s.places place.x place.y (pos 1)) → IsOnPanel t p place
     by_shape None e x = absurd x
-    by_shape (Some s) e x = subst (λ (r : Shape). InShrunk r.margin r.places place.x place.y (pos 1)) (sym (get_or_from_slice_get t.panels p s no_shape e)) x
+    by_shape (Some s) e x = subst (λ (r : Shape). InShrunk r.margin r.places place.x place.y (pos 1))
+        (sym (get_or_from_slice_get t.panels p s no_shape e)) x
 
 guide_fits : (t : Tree) (states : List State) (g : Guide) → FitsGuide t states g → IsFitting t states g
 guide_fits t states g h =
@@ -55,11 +62,14 @@ guide_fits t states g h =
       probes = All-weaker (IsOnPanelOfFits t h.0) (IsOnPanel t h.0) (on_panel t h.0) g.probes f.probes;
     }
 
-pub ready_of : (t : Tree) (task : Task) (plan : Plan) (c : Catalogue) → IsTask task → IsPlan plan → IsCatalogue c → task.creases ≡ t.creases → Fits t task plan c → HasMoves task plan → IsReady t plan c task.slack
+pub ready_of : (t : Tree) (task : Task) (plan : Plan) (c : Catalogue) → IsTask task → IsPlan plan
+    → IsCatalogue c → task.creases ≡ t.creases → Fits t task plan c → HasMoves task plan
+    → IsReady t plan c task.slack
 ready_of t task plan c is_task is_plan is_catalogue creases fits moves = record {
   plan_is = plan_of_task t task plan is_task is_plan creases moves;
   catalogue = is_catalogue;
-  fits = All-weaker (FitsGuide t plan.states) (IsFitting t plan.states) (guide_fits t plan.states) c.guides fits.guides;
+  fits = All-weaker (FitsGuide t plan.states) (IsFitting t plan.states) (guide_fits t plan.states) c.guides
+      fits.guides;
   some = is_task.slack.from;
   narrow = is_task.slack.upto;
 }

@@ -15,9 +15,11 @@ use Rattle.carton_fixture.specs.declared.answers.Compiled.{Compiled}
 use Rattle.carton_fixture.specs.declared.answers.Compiled.TheVariants.{PlanFails, Made, Refused, Memory}
 use Rattle.carton_fixture.specs.declared.answers.UnheldEnd.{UnheldEnd}
 use Rattle.carton_fixture.specs.declared.answers.Verified.{Verified}
-use Rattle.carton_fixture.specs.declared.answers.Verified.TheVariants.{PlanFails as PlanFailsOf, OtherStroke, NotCandidate, Touches, Unheld, Holds}
+use Rattle.carton_fixture.specs.declared.answers.Verified.TheVariants.{PlanFails as PlanFailsOf, OtherStroke}
+use Rattle.carton_fixture.specs.declared.answers.Verified.TheVariants.{NotCandidate, Touches, Unheld, Holds}
 use Rattle.carton_fixture.specs.Choices.{IsFirstStranger, boxes, each_of}
-use Rattle.carton_fixture.specs.Fixtures.{DoesHold, IsUnheld, IsOfCatalogue, AreClear, IsGoodFixture, IsNeeded}
+use Rattle.carton_fixture.specs.Fixtures.{DoesHold, IsUnheld, IsOfCatalogue, AreClear, IsGoodFixture}
+use Rattle.carton_fixture.specs.Fixtures.{IsNeeded}
 
 -- the answer of a check of the plan, and it isn't that the plan holds
 pub record IsFailure (t : Tree) (task : Task) (plan : Plan) (answer : Checked) : Type 0 where
@@ -39,7 +41,8 @@ pub record IsMade (t : Tree) (task : Task) (plan : Plan) (c : Catalogue) (f : Fi
   pub needed : (k : ℕ) → k < length f.bodies → IsNeeded t plan c.guides f task.slack k
 
 -- the candidates that are noted to clear the plan don't hold every guide by probes deeper than the slack
-pub record IsRefusal (t : Tree) (task : Task) (plan : Plan) (c : Catalogue) (notes : List BodyNote) (u : UnheldEnd) : Type 0 where
+pub record IsRefusal (t : Tree) (task : Task) (plan : Plan) (c : Catalogue) (notes : List BodyNote)
+    (u : UnheldEnd) : Type 0 where
   pub holds : DoesHold t task plan
   pub notes_are : AreNotesOf t plan c.stroke c.bodies task.slack notes
   pub unheld : IsUnheld t plan c.guides c.stroke c.bodies (clear_ones notes) task.slack u
@@ -63,7 +66,10 @@ IsClearFixture t task plan c f = IsCandidateFixture t task plan c f × AreClear 
 abbrev pub IsVerified : Tree → Task → Plan → Catalogue → Fixture → Verified → Type 0
 IsVerified t task plan c f (PlanFailsOf answer) = IsFailure t task plan answer
 IsVerified t task plan c f OtherStroke = DoesHold t task plan × (f.stroke ≢ c.stroke)
-IsVerified t task plan c f (NotCandidate k) = DoesHold t task plan × (f.stroke ≡ c.stroke) × IsFirstStranger c.bodies f.bodies k
-IsVerified t task plan c f (Touches id panel step m) = IsCandidateFixture t task plan c f × Any (λ b. (b.id ≡ id) × IsTouching t plan f.stroke b.shape task.slack panel.0 step m) f.bodies
-IsVerified t task plan c f (Unheld u) = IsClearFixture t task plan c f × IsUnheld t plan c.guides f.stroke (boxes f.bodies) (each_of f.bodies) task.slack u
+IsVerified t task plan c f (NotCandidate k) = DoesHold t task plan × (f.stroke ≡ c.stroke)
+    × IsFirstStranger c.bodies f.bodies k
+IsVerified t task plan c f (Touches id panel step m) = IsCandidateFixture t task plan c f
+    × Any (λ b. (b.id ≡ id) × IsTouching t plan f.stroke b.shape task.slack panel.0 step m) f.bodies
+IsVerified t task plan c f (Unheld u) = IsClearFixture t task plan c f
+    × IsUnheld t plan c.guides f.stroke (boxes f.bodies) (each_of f.bodies) task.slack u
 IsVerified t task plan c f (Holds count) = IsGoodFixture t task plan c f × (count ≡ length f.bodies)

@@ -24,9 +24,11 @@ pub record DoesHold (t : Tree) (task : Task) (plan : Plan) : Type 0 where
 abbrev pub HoldAll : Tree → Plan → List Guide → List ℤ → List Cuboid → List Bool → Type 0
 HoldAll t plan guides stroke bodies chosen = All (λ g. IsHeld t plan.states g stroke bodies chosen) guides
 
--- at this end of a guide, at this moment of a move of its window, no probe is deeper than the slack in a chosen body
+-- at this end of a guide, at this moment of a move of its window, no probe is deeper than the slack in a
+-- chosen body
 abbrev pub IsUnheld : Tree → Plan → List Guide → List ℤ → List Cuboid → List Bool → ℕ → UnheldEnd → Type 0
-IsUnheld t plan guides stroke bodies chosen slack u = (g : Guide) × (slice_get guides u.guide ≡ Some g) × IsLooseAt t plan.states g stroke bodies chosen (pos slack) u.end u.step u.moment
+IsUnheld t plan guides stroke bodies chosen slack u = (g : Guide) × (slice_get guides u.guide ≡ Some g)
+    × IsLooseAt t plan.states g stroke bodies chosen (pos slack) u.end u.step u.moment
 
 -- the fixture moves by the catalogue's stroke, and each of its bodies is the candidate with its number
 pub record IsOfCatalogue (c : Catalogue) (f : Fixture) : Type 0 where
@@ -37,7 +39,8 @@ pub record IsOfCatalogue (c : Catalogue) (f : Fixture) : Type 0 where
 abbrev pub AreClear : Tree → Plan → Fixture → Type 0
 AreClear t plan f = All (λ b. IsClearOf t plan f.stroke (faces b.shape)) f.bodies
 
--- a good fixture for the plan: the plan holds, its panels clear each body, and together the bodies hold every guide
+-- a good fixture for the plan: the plan holds, its panels clear each body, and together the bodies hold every
+-- guide
 pub record IsGoodFixture (t : Tree) (task : Task) (plan : Plan) (c : Catalogue) (f : Fixture) : Type 0 where
   pub holds : DoesHold t task plan
   pub rules : IsFixture f
@@ -45,6 +48,8 @@ pub record IsGoodFixture (t : Tree) (task : Task) (plan : Plan) (c : Catalogue) 
   pub clear : AreClear t plan f
   pub held : HoldAll t plan c.guides f.stroke (boxes f.bodies) (each_of f.bodies)
 
--- the body in this place can't be left out: at some end and moment the others hold no probe deeper than the slack
+-- the body in this place can't be left out: at some end and moment the others hold no probe deeper than the
+-- slack
 abbrev pub IsNeeded : Tree → Plan → List Guide → Fixture → ℕ → ℕ → Type 0
-IsNeeded t plan guides f slack k = (u : UnheldEnd) × IsUnheld t plan guides f.stroke (boxes f.bodies) (each_but k f.bodies) slack u
+IsNeeded t plan guides f slack k =
+    (u : UnheldEnd) × IsUnheld t plan guides f.stroke (boxes f.bodies) (each_but k f.bodies) slack u

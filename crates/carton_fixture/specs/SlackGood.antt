@@ -24,7 +24,8 @@ pub record IsSlackPlan (t : Tree) (task : Task) (plan : Plan) : Type 0 where
 
 -- the plan clears each chosen candidate by more than the slack
 abbrev pub AreWellClear : Tree → Task → Plan → Catalogue → List Bool → Type 0
-AreWellClear t task plan c chosen = (k : ℕ) (b : Cuboid) → IsChosen c.bodies chosen k b → IsSlackClearOf t plan c.stroke (faces b) task.slack
+AreWellClear t task plan c chosen = (k : ℕ) (b : Cuboid) → IsChosen c.bodies chosen k b
+    → IsSlackClearOf t plan c.stroke (faces b) task.slack
 
 -- candidates that the plan clears by more than the slack hold every guide by more than the slack
 pub record IsSlackGood (t : Tree) (task : Task) (plan : Plan) (c : Catalogue) : Type 0 where
@@ -33,12 +34,15 @@ pub record IsSlackGood (t : Tree) (task : Task) (plan : Plan) (c : Catalogue) : 
   pub clear : AreWellClear t task plan c chosen
   pub held : All (λ g. IsWellHeld t plan.states g c.stroke c.bodies chosen (pos task.slack)) c.guides
 
--- the plan clears the bodies of the fixture by more than the slack, and they hold every guide by more than the slack
-pub record IsSlackGoodFixture (t : Tree) (task : Task) (plan : Plan) (c : Catalogue) (f : Fixture) : Type 0 where
-  pub plan_is : IsSlackPlan t task plan
-  pub candidates : IsOfCatalogue c f
-  pub clear : All (λ b. IsSlackClearOf t plan f.stroke (faces b.shape) task.slack) f.bodies
-  pub held : All (λ g. IsWellHeld t plan.states g f.stroke (boxes f.bodies) (each_of f.bodies) (pos task.slack)) c.guides
+-- the plan clears the bodies of the fixture by more than the slack, and they hold every guide by more than
+-- the slack
+pub record IsSlackGoodFixture (t : Tree) (task : Task) (plan : Plan) (c : Catalogue) (f : Fixture) : Type 0
+  where
+    pub plan_is : IsSlackPlan t task plan
+    pub candidates : IsOfCatalogue c f
+    pub clear : All (λ b. IsSlackClearOf t plan f.stroke (faces b.shape) task.slack) f.bodies
+    pub held : All (λ g. IsWellHeld t plan.states g f.stroke (boxes f.bodies) (each_of f.bodies)
+        (pos task.slack)) c.guides
 
 -- a fixture was made
 abbrev pub IsMadeAnswer : Compiled → Type 0

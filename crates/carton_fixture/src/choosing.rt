@@ -1,4 +1,5 @@
-ghost use Rattle.std.specs.Prelude.{◌≡◌, ◌≤◌, ◌<◌, ◌+◌, ◌∷◌, ◌++◌, [], if◌then◌else◌, length, All, vec_len, vec_capacity};
+ghost use Rattle.std.specs.Prelude.{◌≡◌, ◌≤◌, ◌<◌, ◌+◌, ◌∷◌, ◌++◌, [], if◌then◌else◌, length, All, vec_len};
+ghost use Rattle.std.specs.Prelude.{vec_capacity};
 ghost use Rattle.carton_fixture.specs.Answers.{clears as clears_in, clear_ones};
 ghost use Rattle.carton_fixture.specs.Steps.{none_of, AreNamed, AreFirst};
 
@@ -50,7 +51,8 @@ pub fn choose_named(bodies: &[FixtureBody], chosen: &mut [bool])
 // The bodies with one more if it is chosen, for which there is room.
 fn keep(bodies: &mut Vec<FixtureBody>, is_chosen: bool, body: FixtureBody)
     requires { vec_len bodies.old < vec_capacity bodies.old }
-    ensures items { bodies.new.items ≡ (if is_chosen then bodies.old.items ++ body ∷ [] else bodies.old.items) }
+    ensures items { bodies.new.items
+        ≡ (if is_chosen then bodies.old.items ++ body ∷ [] else bodies.old.items) }
     ensures len { vec_len bodies.new ≤ vec_len bodies.old + 1 }
     ensures room { vec_capacity bodies.old ≤ vec_capacity bodies.new }
 {

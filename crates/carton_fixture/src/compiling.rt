@@ -61,7 +61,8 @@ fn made(
     requires holds { DoesHold carton.now task.now plan.now }
     requires one_each { length chosen.old ≡ length catalogue.now.bodies }
     requires clear { AreChosenClear carton.now plan.now catalogue.now chosen.old }
-    requires held { HoldAll carton.now plan.now catalogue.now.guides catalogue.now.stroke catalogue.now.bodies chosen.old }
+    requires held { HoldAll carton.now plan.now catalogue.now.guides catalogue.now.stroke catalogue.now.bodies
+        chosen.old }
     requires empty { vec_len bodies ≡ 0 }
     requires room { length catalogue.now.bodies ≤ vec_capacity bodies }
     ensures { IsMade carton.now task.now plan.now catalogue.now result }
@@ -141,7 +142,8 @@ pub fn compile(
     requires creases { task.now.creases ≡ carton.now.creases }
     requires fits { Fits carton.now task.now plan.now catalogue.now }
     ensures compiled { IsCompiled carton.now task.now plan.now catalogue.now result }
-    ensures slack_good { IsSlackGood carton.now task.now plan.now catalogue.now → result ≢ Compiled.Memory → IsMadeAnswer result }
+    ensures slack_good { IsSlackGood carton.now task.now plan.now catalogue.now → result ≢ Compiled.Memory
+        → IsMadeAnswer result }
 {
     match FixtureRoom::with_room(alloc, catalogue.bodies.len() as u16) {
         Ok(room) => compile_in(room, carton, task, plan, catalogue),

@@ -19,7 +19,8 @@ fn try_without(
     requires ready { IsReady carton.now plan.now catalogue.now slack }
     requires one_each { length chosen.old ≡ length catalogue.now.bodies }
     requires within { k < length chosen.old }
-    requires held { HoldAll carton.now plan.now catalogue.now.guides catalogue.now.stroke catalogue.now.bodies chosen.old }
+    requires held { HoldAll carton.now plan.now catalogue.now.guides catalogue.now.stroke catalogue.now.bodies
+        chosen.old }
     ensures { IsTried carton.now plan.now catalogue.now slack chosen.old chosen.new k }
 {
     if !chosen[k] {
@@ -43,7 +44,8 @@ pub fn leave_out(
 )
     requires ready { IsReady carton.now plan.now catalogue.now slack }
     requires one_each { length chosen.old ≡ length catalogue.now.bodies }
-    requires held { HoldAll carton.now plan.now catalogue.now.guides catalogue.now.stroke catalogue.now.bodies chosen.old }
+    requires held { HoldAll carton.now plan.now catalogue.now.guides catalogue.now.stroke catalogue.now.bodies
+        chosen.old }
     ensures { AreTried carton.now plan.now catalogue.now slack chosen.old chosen.new (length chosen.new) }
 {
     for k in 0..chosen.len() {

@@ -21,7 +21,8 @@ impl Model for FixtureRoom {
 
     ghost view = { λ r. r.room };
 
-    ghost invariant = { λ r. (vec_len r.notes ≡ r.room) × (vec_len r.bodies ≡ 0) × (r.room ≤ vec_capacity r.bodies) };
+    ghost invariant = { λ r. (vec_len r.notes ≡ r.room) × (vec_len r.bodies ≡ 0)
+        × (r.room ≤ vec_capacity r.bodies) };
 }
 
 impl FixtureRoom {

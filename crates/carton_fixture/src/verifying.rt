@@ -88,7 +88,8 @@ pub fn verify(
     requires fits { Fits carton.now task.now plan.now catalogue.now }
     requires rules { IsFixture fixture.now }
     ensures verified { IsVerified carton.now task.now plan.now catalogue.now fixture.now result }
-    ensures slack_good { IsSlackGoodFixture carton.now task.now plan.now catalogue.now fixture.now → (count : ℕ) × (result ≡ Verified.Holds count) }
+    ensures slack_good { IsSlackGoodFixture carton.now task.now plan.now catalogue.now fixture.now
+        → (count : ℕ) × (result ≡ Verified.Holds count) }
 {
     match check(carton, task, plan) {
         Checked::Holds(_) => verified(carton, task, plan, catalogue, fixture),

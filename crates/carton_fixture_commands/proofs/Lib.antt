@@ -1,2 +1,2 @@
 pub mod NoteLines
-pub mod OneRefusal
+pub mod OneClaim

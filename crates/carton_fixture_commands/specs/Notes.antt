@@ -11,7 +11,9 @@ use Rattle.carton_stroke.specs.declared.note.BodyNote.TheVariants.{Clears, Touch
 
 -- a panel touches a body at a moment of a move
 abbrev pub touching_text : PanelId → ℕ → Moment → List ℕ
-touching_text panel step m = codes " touches panel" ++ spaced panel.0 ++ (codes " move" ++ spaced step ++ (codes " moment " ++ moment_text m))
+touching_text panel step m =
+    codes " touches panel" ++ spaced panel.0
+    ++ (codes " move" ++ spaced step ++ (codes " moment " ++ moment_text m))
 
 -- the line of the body with this number that it touches
 abbrev pub touch_line : ℕ → PanelId → ℕ → Moment → List ℕ
@@ -34,4 +36,7 @@ band_end Over = codes "over"
 
 -- an end of a guide isn't held at a moment of a move
 abbrev pub unheld_text : UnheldEnd → List ℕ
-unheld_text u = codes "unheld guide" ++ spaced u.guide ++ (codes " " ++ band_end u.end ++ (codes " move" ++ spaced u.step ++ (codes " moment " ++ moment_text u.moment)))
+unheld_text u =
+    codes "unheld guide" ++ spaced u.guide
+    ++ (codes " " ++ band_end u.end
+    ++ (codes " move" ++ spaced u.step ++ (codes " moment " ++ moment_text u.moment)))

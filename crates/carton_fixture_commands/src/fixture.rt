@@ -1,14 +1,13 @@
 ghost use Rattle.std.specs.Prelude.{◌≡◌, string_bytes, IfOk};
-ghost use Rattle.carton_fixture_commands.specs.Fixture.{plan_fails_text as plan_fails_text_of, not_held_text as not_held_text_of, told_fixture as told_fixture_of, IsMadeFor, IsWritable, tells_fixture};
-ghost use Rattle.carton_setup.specs.Outcomes.{IsOutcome, values};
-ghost use Rattle.carton_setup.specs.Supplies.{IsFitted};
+ghost use Rattle.carton_fixture_commands.specs.Fixture.{plan_fails_text as plan_fails_text_of};
+ghost use Rattle.carton_fixture_commands.specs.Fixture.{not_held_text as not_held_text_of};
 
 use crate::notes::{unheld_line, write_notes};
 use carton_base::{Listed, OutOfMemory};
 use carton_check::Checked;
 use carton_fixture::{Compiled, Fixture, UnheldEnd, compile, write_fixture};
 use carton_plan_commands::checked_text;
-use carton_setup::{Refusal, Supply, Told, supply_from};
+use carton_setup::{Command, Refusal, Supply, Told};
 use carton_stroke::BodyNote;
 use std::alloc::{AllocError, Global};
 
@@ -44,48 +43,49 @@ fn not_held_text(alloc: Global, notes: &[BodyNote], unheld: UnheldEnd) -> Result
     Ok(text)
 }
 
-// What is told, for a task of this stride, in stops.
-fn told_fixture(alloc: Global, stride: u8, made: &MadeFixture) -> Result<Told, OutOfMemory>
-    requires { IsWritable made.now }
-    ensures { IfOk result (λ told. told ≡ told_fixture_of stride made.now) }
-{
-    match made {
-        MadeFixture::Made(fixture) => Ok(Told::done(write_fixture(alloc, fixture)?)),
-        MadeFixture::PlanFails(checked) => {
-            let text = plan_fails_text(alloc, stride, *checked)?;
-            Ok(Told::denied(text.into_bytes()))
-        }
-        MadeFixture::NotHeld { bodies, unheld } => {
-            let text = not_held_text(alloc, bodies.as_slice(), *unheld)?;
-            Ok(Told::denied(text.into_bytes()))
+/// `fixture`: a fixture for a plan, made of a catalogue, or why none is made.
+#[derive(Clone, Copy, Drop)]
+pub struct FixtureCommand;
+
+impl Command for FixtureCommand {
+    type Given = Supply;
+
+    type Found = MadeFixture;
+
+    ghost use Rattle.carton_fixture_commands.specs.Fixture.{told_fixture, IsMadeFor, IsWritable};
+    ghost use Rattle.carton_setup.specs.Outcomes.{values};
+
+    ghost finds = { λ c s. values (IsMadeFor s) };
+
+    ghost is_tellable = { IsWritable };
+
+    ghost told = { λ c s made. told_fixture s.setup.task.stride made };
+
+    fn find(&self, alloc: Global, given: &Supply) -> Result<MadeFixture, Refusal> {
+        let Supply {
+            setup,
+            plan,
+            catalogue,
+        } = given;
+        match compile(alloc, &setup.carton, &setup.task, plan, catalogue) {
+            Compiled::Made(fixture) => Ok(MadeFixture::Made(fixture)),
+            Compiled::PlanFails(checked) => Ok(MadeFixture::PlanFails(checked)),
+            Compiled::Refused { bodies, unheld } => Ok(MadeFixture::NotHeld { bodies, unheld }),
+            Compiled::Memory => Err(Refusal::NoMemory),
         }
     }
-}
 
-// What comes of making a fixture for a carton, a task, a plan and a catalogue.
-fn made_for(alloc: Global, supply: &Supply) -> Result<MadeFixture, Refusal>
-    requires { IsFitted supply.now }
-    ensures made { IsOutcome (values (IsMadeFor supply.now)) result }
-    ensures writable { IfOk result IsWritable }
-{
-    let Supply {
-        setup,
-        plan,
-        catalogue,
-    } = supply;
-    match compile(alloc, &setup.carton, &setup.task, plan, catalogue) {
-        Compiled::Made(fixture) => Ok(MadeFixture::Made(fixture)),
-        Compiled::PlanFails(checked) => Ok(MadeFixture::PlanFails(checked)),
-        Compiled::Refused { bodies, unheld } => Ok(MadeFixture::NotHeld { bodies, unheld }),
-        Compiled::Memory => Err(Refusal::NoMemory),
+    fn tell(&self, alloc: Global, given: &Supply, found: MadeFixture) -> Result<Told, OutOfMemory> {
+        match found {
+            MadeFixture::Made(fixture) => Ok(Told::done(write_fixture(alloc, &fixture)?)),
+            MadeFixture::PlanFails(checked) => {
+                let text = plan_fails_text(alloc, given.setup.task.stride, checked)?;
+                Ok(Told::denied(text.into_bytes()))
+            }
+            MadeFixture::NotHeld { bodies, unheld } => {
+                let text = not_held_text(alloc, bodies.as_slice(), unheld)?;
+                Ok(Told::denied(text.into_bytes()))
+            }
+        }
     }
-}
-
-/// What `fixture` tells for the bytes of its files.
-pub fn tell_fixture(alloc: Global, files: &[Listed<u8>]) -> Result<Told, Refusal>
-    ensures { IsOutcome (tells_fixture files.now) result }
-{
-    let supply = supply_from(alloc, files)?;
-    let made = made_for(alloc, &supply)?;
-    Ok(told_fixture(alloc, supply.setup.task.stride, &made)?)
 }

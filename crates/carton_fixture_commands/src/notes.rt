@@ -1,5 +1,8 @@
 ghost use Rattle.std.specs.Prelude.{◌≡◌, ◌++◌, string_bytes, OnOk, IfOk};
-ghost use Rattle.carton_fixture_commands.specs.Notes.{touching_text, touch_line as touch_line_of, note_line as note_line_of, note_lines, band_end as band_end_of, unheld_text as unheld_text_of};
+ghost use Rattle.carton_fixture_commands.specs.Notes.{touching_text, touch_line as touch_line_of};
+ghost use Rattle.carton_fixture_commands.specs.Notes.{note_line as note_line_of, note_lines};
+ghost use Rattle.carton_fixture_commands.specs.Notes.{band_end as band_end_of};
+ghost use Rattle.carton_fixture_commands.specs.Notes.{unheld_text as unheld_text_of};
 ghost use Rattle.carton_setup.specs.Printed.{line};
 
 use carton_base::{Moment, PanelId};

@@ -4,8 +4,6 @@
 #[cfg(test)]
 mod compiling;
 #[cfg(test)]
-mod setups;
-#[cfg(test)]
 mod texts;
 #[cfg(test)]
 mod verifying;

@@ -1,5 +1,6 @@
 -- The stroke and the bodies of a fixture that was read, and their numbers.
-use Rattle.std.proofs.Common.{◌≡◌, ℕ, ◌≤◌, ◌<◌, ℤ, pos, negsuc, ◌<ℤ◌, int_lt, unsigned_abs, true, ◌&&◌, not, leb, List, [], ◌∷◌, All, Ok, refl, sym, ap, subst, ◌∙◌, arith}
+use Rattle.std.proofs.Common.{◌≡◌, ℕ, ◌≤◌, ◌<◌, ℤ, pos, negsuc, ◌<ℤ◌, int_lt, unsigned_abs, true, ◌&&◌, not}
+use Rattle.std.proofs.Common.{leb, List, [], ◌∷◌, All, Ok, refl, sym, ap, subst, ◌∙◌, arith}
 use Rattle.std.specs.List.{AllByRecursion}
 use Rattle.std.proofs.lemmas.Bool.{leb-true, le-leb, lt-ltb, ltb-true, and_parts, not-false}
 use Rattle.std.proofs.lemmas.Int.{ints}
@@ -15,7 +16,8 @@ use Rattle.carton_catalogue.specs.CatalogueRules.{IsCoordinate, IsStroke, IsSpan
 use Rattle.carton_fixture_text.specs.declared.fixture.TheConstants.{LAST_BODY}
 use Rattle.carton_fixture_text.specs.declared.fixture.FixtureBody.{FixtureBody}
 use Rattle.carton_fixture_text.specs.FixtureRules.{IsFixtureBody}
-use Rattle.carton_fixture_text.specs.FixtureTexts.{near, way_of, span_of, comes_after, box_between, body_of, numbers_of}
+use Rattle.carton_fixture_text.specs.FixtureTexts.{near, way_of, span_of, comes_after, box_between, body_of}
+use Rattle.carton_fixture_text.specs.FixtureTexts.{numbers_of}
 
 near_is : (z y : ℤ) → near z ≡ Ok y → (z ≡ y) × IsCoordinate y
 near_is z y h =
@@ -43,8 +45,14 @@ way_is (a ∷ b ∷ c ∷ []) way h =
     let is : three x.0 y.0 z.0 ≡ way = same_ok (three x.0 y.0 z.0) way _ refl z.2 in
     let p = near_is a x.0 x.1 in
     let q = near_is b y.0 y.1 in
-    let r = near_is c z.0 z.1 in
-    ((λ i. three (p.0 i) (q.0 i) (r.0 i)) ∙ is, subst IsStroke is (record { three = refl; each = All-from_recursion IsCoordinate (three x.0 y.0 z.0) (p.1, (q.1, (r.1, tt))) }))
+    let r = near_is c z.0 z.1 in (
+      (λ i. three (p.0 i) (q.0 i) (r.0 i))
+          ∙ is,
+      subst IsStroke is (record {
+        three = refl;
+        each = All-from_recursion IsCoordinate (three x.0 y.0 z.0) (p.1, (q.1, (r.1, tt)));
+      }),
+    )
 way_is (a ∷ b ∷ c ∷ d ∷ zs) way h = cc
 
 -- and one that was written
@@ -79,7 +87,8 @@ span_is a b p h =
     let low = near_is a x.0 x.1 in
     let high = near_is b y.0 y.1 in
     let up = less x.0 y.0 (not-false (int_lt x.0 y.0) (not_refused _ Range room.0 room.1)) in
-    subst (AreSides a b) is (record { low = low.0; high = high.0; are = record { from = low.1; upto = high.1; ordered = up } })
+    subst (AreSides a b) is
+    (record { low = low.0; high = high.0; are = record { from = low.1; upto = high.1; ordered = up } })
 
 span_told : (a b : ℤ) → IsSpan a b → span_of a b ≡ Ok (a, b)
 unfolding span_of
@@ -87,8 +96,11 @@ span_told a b h = rw (near_told a h.from, near_told b h.upto, is_less a b h.orde
 
 id_is : (z : ℤ) (id : ℕ) → from_to 0 LAST_BODY z ≡ Ok id → (z ≡ pos id) × (id ≤ LAST_BODY)
 id_is (pos n) id h =
-    let p = only_if (leb 0 n && leb n LAST_BODY) Range n id h in
-    (ap pos (sym p.1), subst (λ m. m ≤ LAST_BODY) (sym p.1) (leb-true n LAST_BODY (and_parts (leb 0 n) (leb n LAST_BODY) p.0).1))
+    let p = only_if (leb 0 n && leb n LAST_BODY) Range n id h in (
+      ap pos (sym p.1),
+      subst (λ m. m ≤ LAST_BODY) (sym p.1)
+          (leb-true n LAST_BODY (and_parts (leb 0 n) (leb n LAST_BODY) p.0).1),
+    )
 id_is (negsuc n) id h = cc
 
 id_told : (id : ℕ) → id ≤ LAST_BODY → from_to 0 LAST_BODY (pos id) ≡ Ok id
@@ -103,7 +115,9 @@ pub record IsNext (bodies : List FixtureBody) (zs : List ℤ) (b : FixtureBody) 
   pub later : comes_after bodies (pos b.id) ≡ true
   pub numbers : zs ≡ numbers_of b
 
-seven : (bodies : List FixtureBody) (i a b c d e f : ℤ) (body : FixtureBody) → body_of bodies (i ∷ a ∷ b ∷ c ∷ d ∷ e ∷ f ∷ []) ≡ Ok body → IsNext bodies (i ∷ a ∷ b ∷ c ∷ d ∷ e ∷ f ∷ []) body
+seven : (bodies : List FixtureBody) (i a b c d e f : ℤ) (body : FixtureBody)
+    → body_of bodies (i ∷ a ∷ b ∷ c ∷ d ∷ e ∷ f ∷ []) ≡ Ok body
+    → IsNext bodies (i ∷ a ∷ b ∷ c ∷ d ∷ e ∷ f ∷ []) body
 unfolding body_of
 seven bodies i a b c d e f body h =
     let up = both (refuse_if (not (comes_after bodies i)) BadLine) _ body h in
@@ -124,7 +138,8 @@ seven bodies i a b c d e f body h =
       numbers = λ j. id.0 j ∷ xs.low j ∷ xs.high j ∷ ys.low j ∷ ys.high j ∷ zs.low j ∷ zs.high j ∷ [];
     })
 
-pub body_is : (bodies : List FixtureBody) (zs : List ℤ) (body : FixtureBody) → body_of bodies zs ≡ Ok body → IsNext bodies zs body
+pub body_is : (bodies : List FixtureBody) (zs : List ℤ) (body : FixtureBody) → body_of bodies zs ≡ Ok body
+    → IsNext bodies zs body
 unfolding body_of
 body_is bodies [] body h = cc
 body_is bodies (i ∷ []) body h = cc
@@ -137,20 +152,31 @@ body_is bodies (i ∷ a ∷ b ∷ c ∷ d ∷ e ∷ f ∷ []) body h = seven bod
 body_is bodies (i ∷ a ∷ b ∷ c ∷ d ∷ e ∷ f ∷ g ∷ zs) body h = cc
 
 -- and one that was written
-pub body_told : (bodies : List FixtureBody) (b : FixtureBody) → IsFixtureBody b → comes_after bodies (pos b.id) ≡ true → body_of bodies (numbers_of b) ≡ Ok b
+pub body_told : (bodies : List FixtureBody) (b : FixtureBody) → IsFixtureBody b
+    → comes_after bodies (pos b.id) ≡ true → body_of bodies (numbers_of b) ≡ Ok b
 unfolding body_of
 body_told bodies b is later =
     let x = is.shape.x in
     let y = is.shape.y in
     let z = is.shape.z in
-    rw (later, id_told b.id is.id, span_told b.shape.x0 b.shape.x1 x, span_told b.shape.y0 b.shape.y1 y, span_told b.shape.z0 b.shape.z1 z) refl
+    rw (
+      later,
+      id_told b.id is.id,
+      span_told b.shape.x0 b.shape.x1 x,
+      span_told b.shape.y0 b.shape.y1 y,
+      span_told b.shape.z0 b.shape.z1 z,
+    ) refl
 
 -- the test that a number comes after those of the bodies
-pub later_bodies : (bodies : List FixtureBody) (n : ℕ) → comes_after bodies (pos n) ≡ true → All (λ c. c.id < n) bodies
-later_bodies bodies n h = λ k d lt. ltb-true _ _ (AllPass-from_list_all (λ c. int_lt (pos c.id) (pos n)) bodies h k d lt)
+pub later_bodies : (bodies : List FixtureBody) (n : ℕ) → comes_after bodies (pos n) ≡ true
+    → All (λ c. c.id < n) bodies
+later_bodies bodies n h =
+    λ k d lt. ltb-true _ _ (AllPass-from_list_all (λ c. int_lt (pos c.id) (pos n)) bodies h k d lt)
 
-pub comes_later : (bodies : List FixtureBody) (n : ℕ) → All (λ c. c.id < n) bodies → comes_after bodies (pos n) ≡ true
-comes_later bodies n h = list_all-from_AllPass (λ c. int_lt (pos c.id) (pos n)) bodies (λ k d lt. lt-ltb _ _ (h k d lt))
+pub comes_later : (bodies : List FixtureBody) (n : ℕ) → All (λ c. c.id < n) bodies
+    → comes_after bodies (pos n) ≡ true
+comes_later bodies n h =
+    list_all-from_AllPass (λ c. int_lt (pos c.id) (pos n)) bodies (λ k d lt. lt-ltb _ _ (h k d lt))
 
 small_near : (z : ℤ) → IsCoordinate z → AreSmall (z ∷ [])
 small_near z h = (omega arith, tt)

@@ -1,6 +1,7 @@
 -- A text that is read as a fixture is the fixture's spelling, and the fixture keeps the rules.
 use Rattle.std.specs.Prelude.{AllPairs}
-use Rattle.std.proofs.Common.{◌≡◌, ℕ, ◌<◌, ℤ, List, [], ◌∷◌, ◌++◌, Result, Ok, Err, IfOk, refl, sym, ap, subst, ◌∙◌, append_assoc, bytes_eq, codes, arith}
+use Rattle.std.proofs.Common.{◌≡◌, ℕ, ◌<◌, ℤ, List, [], ◌∷◌, ◌++◌, Result, Ok, Err, IfOk, refl, sym, ap}
+use Rattle.std.proofs.Common.{subst, ◌∙◌, append_assoc, bytes_eq, codes, arith}
 use Rattle.std.specs.List.{flat_map}
 use Rattle.std.proofs.lemmas.Grind.{flat_map-append}
 use Rattle.std.proofs.lemmas.List.{append-nil}
@@ -22,7 +23,9 @@ use Rattle.carton_fixture_text.specs.declared.fixture_text.FixtureReading.{Fixtu
 use Rattle.carton_fixture_text.specs.declared.fixture_text.FixtureReading.TheVariants.{Headed, Within}
 use Rattle.carton_catalogue.specs.CatalogueRules.{IsStroke}
 use Rattle.carton_fixture_text.specs.FixtureRules.{IsFixtureBody, IsFixture}
-use Rattle.carton_fixture_text.specs.FixtureTexts.{way_of, stroke_told, body_of, with_body, begun, fixture_line, fixture_lines, fixture_told, fixture_of, body_line, spelling}
+use Rattle.carton_fixture_text.specs.FixtureTexts.{way_of, stroke_told, body_of, with_body, begun}
+use Rattle.carton_fixture_text.specs.FixtureTexts.{fixture_line, fixture_lines, fixture_told, fixture_of}
+use Rattle.carton_fixture_text.specs.FixtureTexts.{body_line, spelling}
 use Rattle.carton_fixture_text.proofs.FixtureEntries.{way_is, way_small, body_is, later_bodies, numbers_small}
 
 -- a line tells one body more
@@ -62,8 +65,11 @@ unfolding stroke_told
 stroke_line line stroke h =
     let zs = both (numbers_after (codes "stroke") (words_of line)) way_of stroke h in
     let is = way_is zs.0 stroke zs.2 in
-    let small : AreSmall zs.0 = subst AreSmall (sym is.0) (way_small stroke is.1) in
-    (is.1, ap (λ (bs : List ℕ). bs ++ codes "\n") (line_spelled (codes "stroke") line zs.0 zs.1 small) ∙ ap (λ (ys : List ℤ). spelled (codes "stroke") ys) is.0)
+    let small : AreSmall zs.0 = subst AreSmall (sym is.0) (way_small stroke is.1) in (
+      is.1,
+      ap (λ (bs : List ℕ). bs ++ codes "\n") (line_spelled (codes "stroke") line zs.0 zs.1 small)
+          ∙ ap (λ (ys : List ℤ). spelled (codes "stroke") ys) is.0,
+    )
 
 no_pairs : AllPairs (λ (x y : FixtureBody). x.id < y.id) []
 no_pairs = λ i j d less lt. absurd (omega arith)
@@ -71,7 +77,8 @@ no_pairs = λ i j d less lt. absurd (omega arith)
 -- what the lines up to a body have told, and their text
 record IsSoFar (f : Fixture) (bytes : List ℕ) : Type 0 where
   keeps : IsFixture f
-  text : bytes ≡ codes "carton fixture 1\n" ++ (spelled (codes "stroke") f.stroke ++ flat_map body_line f.bodies)
+  text : bytes ≡ codes "carton fixture 1\n"
+      ++ (spelled (codes "stroke") f.stroke ++ flat_map body_line f.bodies)
 
 abbrev SoFar : FixtureReading → List ℕ → Type 0
 SoFar Headed bytes = bytes ≡ codes "carton fixture 1\n"
@@ -80,15 +87,18 @@ SoFar (Within f) bytes = IsSoFar f bytes
 first_told : (line : List ℕ) (r : FixtureReading) → begun line ≡ Ok r → SoFar r (fed line)
 first_told line r h =
     let p = only_if (bytes_eq line (codes "carton fixture 1")) BadLine Headed r h in
-    subst (λ x. SoFar x (fed line)) (sym p.1) (ap fed ((bytes_eq-Decides line (codes "carton fixture 1")).0 p.0))
+    subst (λ x. SoFar x (fed line)) (sym p.1)
+    (ap fed ((bytes_eq-Decides line (codes "carton fixture 1")).0 p.0))
 
-stroke_next : (stroke : List ℤ) (line bytes : List ℕ) → bytes ≡ codes "carton fixture 1\n" → stroke_told line ≡ Ok stroke → IsSoFar (record { stroke = stroke; bodies = [] }) (bytes ++ fed line)
+stroke_next : (stroke : List ℤ) (line bytes : List ℕ) → bytes ≡ codes "carton fixture 1\n"
+    → stroke_told line ≡ Ok stroke → IsSoFar (record { stroke = stroke; bodies = [] }) (bytes ++ fed line)
 stroke_next stroke line bytes text h =
     let is = stroke_line line stroke h in
     record {
       keeps = record { stroke = is.0; each = All-nil IsFixtureBody; rising = no_pairs };
       text = (λ i. text i ++ is.1 i)
-          ∙ ap (λ (bs : List ℕ). codes "carton fixture 1\n" ++ bs) (sym (append-nil (spelled (codes "stroke") stroke)));
+          ∙ ap (λ (bs : List ℕ). codes "carton fixture 1\n"
+          ++ bs) (sym (append-nil (spelled (codes "stroke") stroke)));
     }
 
 body_next : (f g : Fixture) (line bytes : List ℕ) → IsSoFar f bytes → IsMore f g line
@@ -103,18 +113,22 @@ body_next f g line bytes k one =
           ∙ append_assoc first (stroke ++ bodies) (body_line one.body)
           ∙ ap (λ (bs : List ℕ). first ++ bs) (append_assoc stroke bodies (body_line one.body))
           ∙ ap (λ (bs : List ℕ). first ++ (stroke ++ (bodies ++ bs))) (sym (append-nil (body_line one.body)))
-          ∙ ap (λ (bs : List ℕ). first ++ (stroke ++ bs)) (sym (flat_map-append body_line f.bodies (one.body ∷ [])))
-          ∙ (λ i. first ++ (spelled (codes "stroke") (sym one.stroke i) ++ flat_map body_line (sym one.all i)));
+          ∙ ap (λ (bs : List ℕ). first ++ (stroke ++ bs))
+          (sym (flat_map-append body_line f.bodies (one.body ∷ [])))
+          ∙ (λ i. first
+          ++ (spelled (codes "stroke") (sym one.stroke i) ++ flat_map body_line (sym one.all i)));
     }
 
 later_told : (r s : FixtureReading) (n : ℕ) (line bytes : List ℕ) → SoFar r bytes
     → fixture_line r n line ≡ Ok s → SoFar s (bytes ++ fed line)
 later_told Headed s n line bytes k h =
     let stroke = both (stroke_told line) _ s h in
-    subst (λ x. SoFar x (bytes ++ fed line)) (same_ok (Within (record { stroke = stroke.0; bodies = [] })) s _ refl stroke.2) (stroke_next stroke.0 line bytes k stroke.1)
+    subst (λ x. SoFar x (bytes ++ fed line)) (same_ok (Within (record { stroke = stroke.0; bodies = [] })) s _
+    refl stroke.2) (stroke_next stroke.0 line bytes k stroke.1)
 later_told (Within f) s n line bytes k h =
     let g = both (with_body f line) _ s h in
-    subst (λ x. SoFar x (bytes ++ fed line)) (same_ok (Within g.0) s _ refl g.2) (body_next f g.0 line bytes k (one_more f g.0 line k.keeps g.1))
+    subst (λ x. SoFar x (bytes ++ fed line)) (same_ok (Within g.0) s _ refl g.2)
+    (body_next f g.0 line bytes k (one_more f g.0 line k.keeps g.1))
 
 -- a text that is read as a fixture
 pub fixture_read : (bytes : List ℕ) (f : Fixture) → fixture_of bytes ≡ Ok f

@@ -1,5 +1,6 @@
 -- The fixture of a text, or the first rule that fails; and the text of a fixture.
-use Rattle.std.specs.Prelude.{◌≡◌, ◌↔◌, ℕ, ℤ, pos, ◌++◌, List, [], ◌∷◌, flat_map, int_lt, not, bytes_eq, Bool, true, false, if◌then◌else◌, Result, Ok, Err, codes}
+use Rattle.std.specs.Prelude.{◌≡◌, ◌↔◌, ℕ, ℤ, pos, ◌++◌, List, [], ◌∷◌, flat_map, int_lt, not, bytes_eq, Bool}
+use Rattle.std.specs.Prelude.{true, false, if◌then◌else◌, Result, Ok, Err, codes}
 use Rattle.std.specs.List.{list_all}
 use Rattle.carton_base.specs.declared.bodies.Cuboid.{Cuboid}
 use Rattle.carton_base.specs.Steps.{◌>>=◌, refuse_if}
@@ -77,7 +78,8 @@ begun line = if bytes_eq line (codes "carton fixture 1") then Ok Headed else Err
 
 -- the second line tells the stroke, and each later one a body
 abbrev pub fixture_line : FixtureReading → ℕ → List ℕ → Result FixtureReading Fault
-fixture_line Headed n line = stroke_told line >>= λ stroke. Ok (Within (record { stroke = stroke; bodies = [] }))
+fixture_line Headed n line =
+    stroke_told line >>= λ stroke. Ok (Within (record { stroke = stroke; bodies = [] }))
 fixture_line (Within f) n line = with_body f line >>= λ g. Ok (Within g)
 
 -- `end` ends a fixture whose stroke was told
@@ -108,7 +110,9 @@ body_line b = spelled (codes "body") (numbers_of b)
 
 -- the one spelling of a fixture
 abbrev pub spelling : Fixture → List ℕ
-spelling f = codes "carton fixture 1\n" ++ (spelled (codes "stroke") f.stroke ++ (flat_map body_line f.bodies ++ codes "end\n"))
+spelling f =
+    codes "carton fixture 1\n"
+    ++ (spelled (codes "stroke") f.stroke ++ (flat_map body_line f.bodies ++ codes "end\n"))
 
 -- the text is read as a fixture exactly where it is the fixture's spelling and the fixture keeps its rules
 abbrev pub HasOneSpelling : List ℕ → Type 0

@@ -1,6 +1,9 @@
 ghost use Rattle.std.specs.Prelude.{◌≡◌};
 ghost use Rattle.carton_lines.specs.Lines.{Gives};
-ghost use Rattle.carton_fixture_text.specs.FixtureTexts.{near as near_in, way_of, stroke_told as stroke_told_in, span_of, comes_after as comes_after_in, body_of, with_body as with_body_in};
+ghost use Rattle.carton_fixture_text.specs.FixtureTexts.{near as near_in, way_of};
+ghost use Rattle.carton_fixture_text.specs.FixtureTexts.{stroke_told as stroke_told_in, span_of};
+ghost use Rattle.carton_fixture_text.specs.FixtureTexts.{comes_after as comes_after_in, body_of};
+ghost use Rattle.carton_fixture_text.specs.FixtureTexts.{with_body as with_body_in};
 
 use crate::fixture::{Fixture, FixtureBody, LAST_BODY};
 use carton_base::Cuboid;

@@ -1,5 +1,8 @@
 -- What the rules accept keeps them.
-use Rattle.std.proofs.Common.{◌≡◌, ℕ, ◌≤◌, ◌<◌, ltb, eqb, ℤ, pos, negsuc, unsigned_abs, Bool, true, false, not, cond, ◌||◌, ◌&&◌, List, [], ◌∷◌, length, map, Option, Some, None, Result, Ok, Err, refl, sym, ap, ◌∙◌, arith, rules, codes, replicate, get_or, neg_ℤ, option_and_then, ok_or, IfOk, IfSome}
+use Rattle.std.proofs.Common.{◌≡◌, ℕ, ◌≤◌, ◌<◌, ltb, eqb, ℤ, pos, negsuc, unsigned_abs, Bool, true, false}
+use Rattle.std.proofs.Common.{not, cond, ◌||◌, ◌&&◌, List, [], ◌∷◌, length, map, Option, Some, None, Result}
+use Rattle.std.proofs.Common.{Ok, Err, refl, sym, ap, ◌∙◌, arith, rules, codes, replicate, get_or, neg_ℤ}
+use Rattle.std.proofs.Common.{option_and_then, ok_or, IfOk, IfSome}
 use Rattle.std.specs.Ordering.{int_eq}
 use Rattle.std.specs.List.{list_all}
 use Rattle.std.proofs.lemmas.Bool.{ltb-true, ltb-false, eqb-true, eqb-false}
@@ -15,26 +18,33 @@ use Rattle.carton_base.specs.declared.dieline.Letter.{Letter}
 use Rattle.carton_base.specs.declared.dieline.Letter.TheVariants.{Unassigned}
 use Rattle.carton_base.specs.declared.ids.Stop.{Stop}
 use Rattle.carton_model.specs.Dielines.{IsNear, IsEdge, IsFace, IsRightAngled, AreAngles, IsDieline}
-use Rattle.carton_base.specs.declared.limits.TheConstants.{MOST_VERTICES, MOST_EDGES, MOST_PANELS, LEAST_CORNERS, MOST_CORNERS, FARTHEST}
+use Rattle.carton_base.specs.declared.limits.TheConstants.{MOST_VERTICES, MOST_EDGES, MOST_PANELS}
+use Rattle.carton_base.specs.declared.limits.TheConstants.{LEAST_CORNERS, MOST_CORNERS, FARTHEST}
 use Rattle.carton_fold.specs.declared.error.Key.TheVariants.{Vertices, Edges, Assignment, Faces}
 use Rattle.carton_fold.specs.declared.error.FoldError.{FoldError}
-use Rattle.carton_fold.specs.declared.error.FoldError.TheVariants.{TooFar, NotFlat, BadVertex, BadShape, TooMany, NotWhole, NotObject, Memory}
+use Rattle.carton_fold.specs.declared.error.FoldError.TheVariants.{TooFar, NotFlat, BadVertex, BadShape}
+use Rattle.carton_fold.specs.declared.error.FoldError.TheVariants.{TooMany, NotWhole, NotObject, Memory}
 use Rattle.carton_base.specs.Steps.{◌>>=◌, Gives, refuse_if, entries_from}
 use Rattle.carton_fold.specs.Values.{value_in, list_in, list_at, whole, is_number, needed, name_of}
-use Rattle.carton_fold.specs.Vertices.{is_far, vertex_at, point_in_plane, point_in_space, point_of_parts, point_of, vertices_in}
+use Rattle.carton_fold.specs.Vertices.{is_far, vertex_at, point_in_plane, point_in_space, point_of_parts}
+use Rattle.carton_fold.specs.Vertices.{point_of, vertices_in}
 use Rattle.carton_fold.specs.Edges.{vertex_among, edge_between, edge_of_parts, edge_of, edges_in}
 use Rattle.carton_fold.specs.Letters.{letter_of, letters_told, letters_in}
 use Rattle.carton_fold.specs.Faces.{corner_of, is_whole, face_of_parts, face_of, faces_in}
 use Rattle.carton_fold.specs.Angles.{stop_at, stop_of, stops_of, angles_in}
 use Rattle.carton_fold.specs.Dieline.{dieline_in, dieline_of}
-use Rattle.carton_base.proofs.Steps.{both, was_some, not_refused, unless, only_if, some_if, neither, same_ok, count_entries, all_entries}
+use Rattle.carton_base.proofs.Steps.{both, was_some, not_refused, unless, only_if, some_if, neither, same_ok}
+use Rattle.carton_base.proofs.Steps.{count_entries, all_entries}
 use Rattle.carton_fold.proofs.Lists.{few_at}
 
 near_vertex : (i : ℕ) (x y : ℤ) (p : Point) → vertex_at i x y ≡ Ok p → IsNear p
 near_vertex i x y p h =
     let a = unless (is_far x || is_far y) (TooFar i) _ p h in
     let b = neither (is_far x) (is_far y) a.0 in
-    rw a.1 (record { x = ltb-false FARTHEST (unsigned_abs x) b.0; y = ltb-false FARTHEST (unsigned_abs y) b.1 })
+    rw a.1 (record {
+      x = ltb-false FARTHEST (unsigned_abs x) b.0;
+      y = ltb-false FARTHEST (unsigned_abs y) b.1;
+    })
 
 near_parts : (i : ℕ) (parts : List Data) (p : Point) → point_of_parts i parts ≡ Ok p → IsNear p
 unfolding point_in_plane point_in_space
@@ -66,7 +76,8 @@ among vertices (pos m) n h =
     rw s.1 (ltb-true m vertices s.0)
 among vertices (negsuc m) n h = cc
 
-edge_parts : (vertices i : ℕ) (parts : List Data) (e : Ends) → edge_of_parts vertices i parts ≡ Ok e → IsEdge vertices e
+edge_parts : (vertices i : ℕ) (parts : List Data) (e : Ends) → edge_of_parts vertices i parts ≡ Ok e
+    → IsEdge vertices e
 unfolding edge_between
 edge_parts vertices i [] e h = cc
 edge_parts vertices i (a ∷ []) e h = cc
@@ -95,7 +106,8 @@ passes true n = refl
 passes false n = cc
 
 -- there is a letter for each edge
-letter_each : (edges : ℕ) (d : Option Data) (letters : List Letter) → letters_in edges d ≡ Ok letters → length letters ≡ edges
+letter_each : (edges : ℕ) (d : Option Data) (letters : List Letter) → letters_in edges d ≡ Ok letters
+    → length letters ≡ edges
 unfolding letters_told
 letter_each edges None letters h =
     let same : letters ≡ replicate edges Unassigned = cc in
@@ -103,30 +115,36 @@ letter_each edges None letters h =
 letter_each edges (Some d) letters h =
     let list = both (list_at Assignment MOST_EDGES d) _ letters h in
     let fine = both (refuse_if (not (eqb (length list.0) edges)) (BadShape Assignment)) _ letters list.2 in
-    count_entries letter_of 0 list.0 letters fine.2 ∙ eqb-true (length list.0) edges (passes _ (not_refused _ (BadShape Assignment) fine.0 fine.1))
+    count_entries letter_of 0 list.0 letters fine.2
+    ∙ eqb-true (length list.0) edges (passes _ (not_refused _ (BadShape Assignment) fine.0 fine.1))
 
 corner_among : (vertices i place : ℕ) (d : Data) (n : ℕ) → corner_of vertices i place d ≡ Ok n → n < vertices
-corner_among vertices i place d n h = by_number (whole d) (was_some (option_and_then (vertex_among vertices) (whole d)) (BadVertex Faces i) n h)
+corner_among vertices i place d n h =
+    by_number (whole d) (was_some (option_and_then (vertex_among vertices) (whole d)) (BadVertex Faces i) n h)
   where
     by_number : (o : Option ℤ) → option_and_then (vertex_among vertices) o ≡ Some n → n < vertices
     by_number None e = cc
     by_number (Some z) e = among vertices z n e
 
-face_parts : (vertices i : ℕ) (parts : List Data) (f : Face) → face_of_parts vertices i parts ≡ Ok f → IsFace vertices f
+face_parts : (vertices i : ℕ) (parts : List Data) (f : Face) → face_of_parts vertices i parts ≡ Ok f
+    → IsFace vertices f
 unfolding face_of_parts
 face_parts vertices i parts f h =
-    let shape = both (refuse_if (ltb (length parts) LEAST_CORNERS || not (list_all is_number parts)) (BadShape Faces)) _ f h in
+    let shape = both (refuse_if (ltb (length parts) LEAST_CORNERS || not (list_all is_number parts))
+    (BadShape Faces)) _ f h in
     let few = both (refuse_if (ltb MOST_CORNERS (length parts)) (TooMany Faces)) _ f shape.2 in
     let numbers = both (refuse_if (not (list_all is_whole parts)) (NotWhole Faces i)) _ f few.2 in
     let corners = both (entries_from (corner_of vertices i) 0 parts) _ f numbers.2 in
     let made : record { corners = corners.0 } ≡ f = cc in
     let count = count_entries (corner_of vertices i) 0 parts corners.0 corners.1 in
-    let three = ltb-false (length parts) LEAST_CORNERS (neither _ _ (not_refused _ (BadShape Faces) shape.0 shape.1)).0 in
+    let three = ltb-false (length parts) LEAST_CORNERS
+    (neither _ _ (not_refused _ (BadShape Faces) shape.0 shape.1)).0 in
     let most = ltb-false MOST_CORNERS (length parts) (not_refused _ (TooMany Faces) few.0 few.1) in
     rw (sym made) (record {
       some = rw count three;
       few = rw count most;
-      corners = all_entries (λ c. c < vertices) (corner_of vertices i) (corner_among vertices i) 0 parts corners.0 corners.1;
+      corners = all_entries (λ c. c < vertices) (corner_of vertices i) (corner_among vertices i) 0 parts
+          corners.0 corners.1;
     })
 
 is_face : (vertices i : ℕ) (d : Data) (f : Face) → face_of vertices i d ≡ Ok f → IsFace vertices f
@@ -135,7 +153,8 @@ is_face vertices i d f h =
     face_parts vertices i s.0 f s.2
 
 -- one more angle at which a stop stands
-right_at : (b : Bool) (s : Stop) (rest : Option Stop) → IsRightAngled s → IfSome rest IsRightAngled → IfSome (cond b (Some s) rest) IsRightAngled
+right_at : (b : Bool) (s : Stop) (rest : Option Stop) → IsRightAngled s → IfSome rest IsRightAngled
+    → IfSome (cond b (Some s) rest) IsRightAngled
 right_at true s rest one others = one
 right_at false s rest one others = others
 
@@ -149,12 +168,19 @@ right_stop (Some z) =
     right_at (int_eq z (pos 90)) _ _ (search rules) (
     right_at (int_eq z (pos 180)) _ None (search rules) tt))))
 
-right_angles : (edges : ℕ) (o : Option (List Data)) → IfSome (option_and_then (stops_of edges) o) (AreAngles edges)
+right_angles : (edges : ℕ) (o : Option (List Data))
+    → IfSome (option_and_then (stops_of edges) o) (AreAngles edges)
 right_angles edges None = tt
 right_angles edges (Some list) = by_length (eqb (length list) edges) refl
   where
-    by_length : (b : Bool) → eqb (length list) edges ≡ b → IfSome (cond b (Some (map stop_of list)) None) (AreAngles edges)
-    by_length true e = (length-map list stop_of ∙ eqb-true (length list) edges e, All-map (λ o. IfSome o IsRightAngled) stop_of list (λ k d lt. right_stop (whole (get_or list k d))))
+    by_length : (b : Bool) → eqb (length list) edges ≡ b
+        → IfSome (cond b (Some (map stop_of list)) None) (AreAngles edges)
+    by_length true e = (
+      length-map list stop_of
+          ∙ eqb-true (length list) edges e,
+      All-map (λ o. IfSome o IsRightAngled) stop_of list (λ k d lt.
+          right_stop (whole (get_or list k d))),
+    )
     by_length false e = tt
 
 at_least_one : (n : ℕ) → (n ≡ 0 → ⊥) → 1 ≤ n
@@ -178,16 +204,27 @@ value_accepted d raw h =
     let some = both (refuse_if (eqb (length fs.0) 0) (BadShape Faces)) _ faces.0 fs.2 in
     let several = eqb-false (length fs.0) 0 (not_refused _ (BadShape Faces) some.0 some.1) in
     let face_count = count_entries (face_of (length vertices.0)) 0 fs.0 faces.0 some.2 in
-    let made : record { vertices = vertices.0; edges = edges.0; letters = letters.0; faces = faces.0; angles = angles_in (length edges.0) (get (codes "edges_foldAngle") d) } ≡ raw = same_ok _ raw _ refl faces.2 in
+    let made : record {
+      vertices = vertices.0;
+      edges = edges.0;
+      letters = letters.0;
+      faces = faces.0;
+      angles = angles_in (length edges.0) (get (codes "edges_foldAngle") d);
+    } ≡ raw =
+    same_ok _ raw _ refl faces.2 in
     rw (sym made) (record {
-      vertices = rw (count_entries point_of 0 vs.0 vertices.0 vs.2) (few_at Vertices MOST_VERTICES v.0 vs.0 vs.1);
+      vertices =
+          rw (count_entries point_of 0 vs.0 vertices.0 vs.2) (few_at Vertices MOST_VERTICES v.0 vs.0 vs.1);
       near = all_entries IsNear point_of near_point 0 vs.0 vertices.0 vs.2;
-      edges = rw (count_entries (edge_of (length vertices.0)) 0 es.0 edges.0 es.2) (few_at Edges MOST_EDGES e.0 es.0 es.1);
-      ends = all_entries (IsEdge (length vertices.0)) (edge_of (length vertices.0)) (is_edge (length vertices.0)) 0 es.0 edges.0 es.2;
+      edges = rw (count_entries (edge_of (length vertices.0)) 0 es.0 edges.0 es.2)
+          (few_at Edges MOST_EDGES e.0 es.0 es.1);
+      ends = all_entries (IsEdge (length vertices.0)) (edge_of (length vertices.0))
+          (is_edge (length vertices.0)) 0 es.0 edges.0 es.2;
       letters = letter_each (length edges.0) (get (name_of Assignment) d) letters.0 letters.1;
       some_face = rw face_count (at_least_one (length fs.0) several);
       faces = rw face_count (few_at Faces MOST_PANELS f.0 fs.0 fs.1);
-      corners = all_entries (IsFace (length vertices.0)) (face_of (length vertices.0)) (is_face (length vertices.0)) 0 fs.0 faces.0 some.2;
+      corners = all_entries (IsFace (length vertices.0)) (face_of (length vertices.0))
+          (is_face (length vertices.0)) 0 fs.0 faces.0 some.2;
       angles = right_angles (length edges.0) (option_and_then list_in (get (codes "edges_foldAngle") d));
     })
 
@@ -199,7 +236,8 @@ accepted bytes raw h =
     value_accepted d.0 raw d.2
 
 -- so does what a function returned that gives the reading of the file's value
-pub keeps_rules : (bytes : List ℕ) (d : Data) (r : Result RawDieline FoldError) → value_in bytes ≡ Ok d → Gives Memory (λ raw. raw) r (dieline_in d) → IfOk r IsDieline
+pub keeps_rules : (bytes : List ℕ) (d : Data) (r : Result RawDieline FoldError) → value_in bytes ≡ Ok d
+    → Gives Memory (λ raw. raw) r (dieline_in d) → IfOk r IsDieline
 unfolding dieline_of
 keeps_rules bytes d (Ok raw) v h =
     let read : dieline_of bytes ≡ Ok raw = ap (λ (r : Result Data FoldError). r >>= dieline_in) v ∙ h in

@@ -1,5 +1,6 @@
 -- When bytes are a JSON value.
-use Rattle.std.proofs.Common.{◌≡◌, ℕ, List, Bool, true, false, cond, Ok, Err, Some, None, refl, ap, ◌∙◌, ok_or}
+use Rattle.std.proofs.Common.{◌≡◌, ℕ, List, Bool, true, false, cond, Ok, Err, Some, None, refl, ap, ◌∙◌}
+use Rattle.std.proofs.Common.{ok_or}
 use Rattle.std.specs.Str.{IsUtf8, is_utf8}
 use Rattle.std.proofs.lemmas.Str.{IsUtf8-from_is_utf8, is_utf8-from_IsUtf8}
 use Rattle.serde_json.specs.Data.{Data}
@@ -9,7 +10,8 @@ use Rattle.carton_fold.specs.Values.{value_in}
 
 pub reads : (bytes : List ℕ) (d : Data) → IsUtf8 bytes → read bytes ≡ Some d → value_in bytes ≡ Ok d
 unfolding value_in
-reads bytes d u r = ap (λ b. ok_or (cond b (read bytes) None) NotJson) (is_utf8-from_IsUtf8 bytes u) ∙ ap (λ o. ok_or o NotJson) r
+reads bytes d u r = ap (λ b. ok_or (cond b (read bytes) None) NotJson) (is_utf8-from_IsUtf8 bytes u)
+    ∙ ap (λ o. ok_or o NotJson) r
 
 pub refuses : (bytes : List ℕ) → (IsUtf8 bytes → read bytes ≡ None) → value_in bytes ≡ Err NotJson
 unfolding value_in

@@ -14,7 +14,8 @@ elements-items_of [] = refl
 elements-items_of (d ∷ ds) = ap (λ (es : List Data). d ∷ es) (elements-items_of ds)
 
 -- a list that was accepted has at most so many entries
-pub few_at : (key : Key) (most : ℕ) (d : Data) (list : List Data) → list_at key most d ≡ Ok list → length list ≤ most
+pub few_at : (key : Key) (most : ℕ) (d : Data) (list : List Data) → list_at key most d ≡ Ok list
+    → length list ≤ most
 unfolding list_at
 few_at key most d list h =
     let a = both (ok_or (list_in d) (BadShape key)) _ list h in

@@ -1,5 +1,6 @@
 -- The stops of edges_foldAngle, which never refuses a file.
-use Rattle.std.specs.Prelude.{ℕ, ℤ, pos, neg_ℤ, List, length, nat_eq, map, if◌then◌else◌, Option, Some, None, option_and_then}
+use Rattle.std.specs.Prelude.{ℕ, ℤ, pos, neg_ℤ, List, length, nat_eq, map, if◌then◌else◌, Option, Some, None}
+use Rattle.std.specs.Prelude.{option_and_then}
 use Rattle.std.specs.Ordering.{int_eq}
 use Rattle.serde_json.specs.Data.{Data}
 use Rattle.carton_base.specs.declared.ids.Stop.{Stop}

@@ -25,7 +25,13 @@ dieline_in d = do
   edges ← edges_in (length vertices) edges_value
   letters ← letters_in (length edges) (get (name_of Assignment) d)
   faces ← faces_in (length vertices) faces_value
-  Ok (record { vertices = vertices; edges = edges; letters = letters; faces = faces; angles = angles_in (length edges) (get (codes "edges_foldAngle") d) })
+  Ok (record {
+    vertices = vertices;
+    edges = edges;
+    letters = letters;
+    faces = faces;
+    angles = angles_in (length edges) (get (codes "edges_foldAngle") d);
+  })
 
 -- the dieline of the bytes of a file
 unfoldable pub dieline_of : List ℕ → Result RawDieline FoldError

@@ -10,5 +10,7 @@ use Rattle.carton_fold.specs.declared.error.FoldError.{FoldError}
 use Rattle.carton_fold.specs.declared.error.FoldError.TheVariants.{Memory}
 
 -- a call at a place below a count and at a value gives what the rules of an entry give
-abbrev pub ReadsBy : {F T : Type 0} → Shared F (ℕ × (Bor Value × Unit {0})) (Result T FoldError) → F → ℕ → (ℕ → Data → Result T FoldError) → Type 0
-ReadsBy {F} {T} g f count entry = (i : ℕ) (v : Bor Value) (r : Result T FoldError) → i < count → g.post f (i, (v, tt)) r → Gives Memory (λ (x : T). x) r (entry i (view v.now))
+abbrev pub ReadsBy : {F T : Type 0} → Shared F (ℕ × (Bor Value × Unit {0})) (Result T FoldError) → F → ℕ
+    → (ℕ → Data → Result T FoldError) → Type 0
+ReadsBy {F} {T} g f count entry = (i : ℕ) (v : Bor Value) (r : Result T FoldError) → i < count
+    → g.post f (i, (v, tt)) r → Gives Memory (λ (x : T). x) r (entry i (view v.now))

@@ -1,5 +1,6 @@
 -- The rules of faces_vertices.
-use Rattle.std.specs.Prelude.{ℕ, List, length, nat_lt, nat_eq, not, ◌||◌, is_some, option_and_then, Bool, Result, Ok, ok_or}
+use Rattle.std.specs.Prelude.{ℕ, List, length, nat_lt, nat_eq, not, ◌||◌, is_some, option_and_then, Bool}
+use Rattle.std.specs.Prelude.{Result, Ok, ok_or}
 use Rattle.std.specs.List.{list_all}
 use Rattle.serde_json.specs.Data.{Data}
 use Rattle.carton_base.specs.declared.dieline.Face.{Face}

@@ -1,9 +1,11 @@
 -- The rules of edges_assignment.
-use Rattle.std.specs.Prelude.{ℕ, List, length, nat_eq, not, bytes_eq, replicate, if◌then◌else◌, Option, Some, None, Result, Ok, Err, codes, ok_or}
+use Rattle.std.specs.Prelude.{ℕ, List, length, nat_eq, not, bytes_eq, replicate, if◌then◌else◌, Option, Some}
+use Rattle.std.specs.Prelude.{None, Result, Ok, Err, codes, ok_or}
 use Rattle.serde_json.specs.Data.{Data}
 use Rattle.serde_json.specs.Find.{as_str}
 use Rattle.carton_base.specs.declared.dieline.Letter.{Letter}
-use Rattle.carton_base.specs.declared.dieline.Letter.TheVariants.{Boundary, Mountain, Valley, Flat, Unassigned, Cut}
+use Rattle.carton_base.specs.declared.dieline.Letter.TheVariants.{Boundary, Mountain, Valley, Flat}
+use Rattle.carton_base.specs.declared.dieline.Letter.TheVariants.{Unassigned, Cut}
 use Rattle.carton_base.specs.declared.limits.TheConstants.{MOST_EDGES}
 use Rattle.carton_fold.specs.declared.error.Key.TheVariants.{Assignment}
 use Rattle.carton_fold.specs.declared.error.FoldError.{FoldError}

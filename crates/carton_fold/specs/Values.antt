@@ -1,5 +1,6 @@
 -- What the rules ask of a JSON value.
-use Rattle.std.specs.Prelude.{ℕ, ℤ, List, [], ◌∷◌, length, nat_lt, Bool, if◌then◌else◌, Option, None, option_map, option_and_then, is_some, Result, Ok, codes, ok_or}
+use Rattle.std.specs.Prelude.{ℕ, ℤ, List, [], ◌∷◌, length, nat_lt, Bool, if◌then◌else◌, Option, None}
+use Rattle.std.specs.Prelude.{option_map, option_and_then, is_some, Result, Ok, codes, ok_or}
 use Rattle.std.specs.Str.{is_utf8}
 use Rattle.serde_json.specs.Data.{Data, Items, no_items, item}
 use Rattle.serde_json.specs.Find.{get, as_array, as_number, as_integer}

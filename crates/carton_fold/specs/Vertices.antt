@@ -1,5 +1,6 @@
 -- The rules of vertices_coords.
-use Rattle.std.specs.Prelude.{ℕ, ℤ, pos, unsigned_abs, List, [], ◌∷◌, nat_lt, Bool, not, ◌&&◌, ◌||◌, if◌then◌else◌, Result, Ok, Err, ok_or}
+use Rattle.std.specs.Prelude.{ℕ, ℤ, pos, unsigned_abs, List, [], ◌∷◌, nat_lt, Bool, not, ◌&&◌, ◌||◌}
+use Rattle.std.specs.Prelude.{if◌then◌else◌, Result, Ok, Err, ok_or}
 use Rattle.std.specs.Ordering.{int_eq}
 use Rattle.serde_json.specs.Data.{Data}
 use Rattle.carton_base.specs.declared.dieline.Point.{Point}

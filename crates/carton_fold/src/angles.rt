@@ -46,7 +46,8 @@ pub fn read_angles(
     edges: usize,
     value: Option<&Value>,
 ) -> Result<Option<Listed<Option<Stop>>>, FoldError>
-    ensures { Gives FoldError.Memory (λ a. a) result (Ok (angles_in edges (option_map (λ v. view v.now) value.entry))) }
+    ensures { Gives FoldError.Memory (λ a. a) result
+        (Ok (angles_in edges (option_map (λ v. view v.now) value.entry))) }
 {
     let Some(list) = value.and_then(|value| list_of(value)) else {
         return Ok(None);

@@ -1,7 +1,8 @@
 ghost use Rattle.std.specs.Prelude.{◌≡◌, ◌≤◌, ◌<◌, length, map, IfOk};
 ghost use Rattle.serde_json.specs.View.{view};
 ghost use Rattle.carton_base.specs.Steps.{Gives, entries_from};
-ghost use Rattle.carton_fold.specs.Edges.{vertex_among as vertex_among_in, edge_between as edge_between_in, edge_of_parts, edge_of, edges_in};
+ghost use Rattle.carton_fold.specs.Edges.{vertex_among as vertex_among_in, edge_between as edge_between_in};
+ghost use Rattle.carton_fold.specs.Edges.{edge_of_parts, edge_of, edges_in};
 
 use crate::entries::entries;
 use crate::error::{FoldError, Key};

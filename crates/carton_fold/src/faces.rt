@@ -3,7 +3,8 @@ ghost use Rattle.std.specs.List.{list_all};
 ghost use Rattle.serde_json.specs.View.{view};
 ghost use Rattle.carton_base.specs.Steps.{Gives, entries_from};
 ghost use Rattle.carton_fold.specs.Values.{is_number as is_number_in};
-ghost use Rattle.carton_fold.specs.Faces.{is_whole as is_whole_in, corner_of, face_of_parts, face_of, faces_in};
+ghost use Rattle.carton_fold.specs.Faces.{is_whole as is_whole_in, corner_of, face_of_parts, face_of};
+ghost use Rattle.carton_fold.specs.Faces.{faces_in};
 
 use crate::edges::vertex_among;
 use crate::entries::entries;

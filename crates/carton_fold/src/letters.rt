@@ -1,7 +1,8 @@
 ghost use Rattle.std.specs.Prelude.{◌≡◌, ◌≤◌, ◌<◌, length, map, option_map};
 ghost use Rattle.serde_json.specs.View.{view};
 ghost use Rattle.carton_base.specs.Steps.{Gives, entries_from};
-ghost use Rattle.carton_fold.specs.Letters.{letter_of_text, letter_of, letters_told as letters_told_in, letters_in};
+ghost use Rattle.carton_fold.specs.Letters.{letter_of_text, letter_of, letters_told as letters_told_in};
+ghost use Rattle.carton_fold.specs.Letters.{letters_in};
 
 use crate::entries::entries;
 use crate::error::{FoldError, Key};
@@ -52,7 +53,8 @@ pub fn read_letters(
     edges: usize,
     value: Option<&Value>,
 ) -> Result<Vec<Letter>, FoldError>
-    ensures { Gives FoldError.Memory (λ v. v.items) result (letters_in edges (option_map (λ v. view v.now) value.entry)) }
+    ensures { Gives FoldError.Memory (λ v. v.items) result
+        (letters_in edges (option_map (λ v. view v.now) value.entry)) }
 {
     match value {
         Some(value) => letters_told(alloc, edges, value),

@@ -1,7 +1,8 @@
 ghost use Rattle.std.specs.Prelude.{◌≡◌, ◌≤◌, ◌<◌, length, map, unsigned_abs, IfOk};
 ghost use Rattle.serde_json.specs.View.{view};
 ghost use Rattle.carton_base.specs.Steps.{Gives, entries_from};
-ghost use Rattle.carton_fold.specs.Vertices.{is_far as is_far_in, vertex_at as vertex_at_in, point_in_plane, point_in_space, point_of_parts, point_of, vertices_in};
+ghost use Rattle.carton_fold.specs.Vertices.{is_far as is_far_in, vertex_at as vertex_at_in, point_in_plane};
+ghost use Rattle.carton_fold.specs.Vertices.{point_in_space, point_of_parts, point_of, vertices_in};
 
 use crate::entries::entries;
 use crate::error::{FoldError, Key};

@@ -1,7 +1,8 @@
 ghost use Rattle.std.specs.Prelude.{◌≡◌, ◌≤◌, length, map, option_map, IfOk};
 ghost use Rattle.serde_json.specs.View.{view};
 ghost use Rattle.carton_base.specs.Steps.{Gives};
-ghost use Rattle.carton_fold.specs.Values.{value_in, list_in, is_number as is_number_in, whole as whole_in, needed as needed_in, list_at as list_at_in};
+ghost use Rattle.carton_fold.specs.Values.{value_in, list_in, is_number as is_number_in, whole as whole_in};
+ghost use Rattle.carton_fold.specs.Values.{needed as needed_in, list_at as list_at_in};
 
 use crate::error::{FoldError, Key};
 use serde_json::Value;
@@ -60,7 +61,8 @@ pub fn needed(value: &Value, key: Key) -> Result<&Value, FoldError>
 /// The entries of a key's list, of which there are at most so many.
 #[tactic(auto, unfolding(crate::specs::Values::list_at))]
 pub fn list_at(key: Key, most: usize, value: &Value) -> Result<&[Value], FoldError>
-    ensures value { Gives FoldError.Memory (λ s. map view s.now) result (list_at_in key most (view value.now)) }
+    ensures value { Gives FoldError.Memory (λ s. map view s.now) result
+        (list_at_in key most (view value.now)) }
     ensures few { IfOk result (λ s. length s.now ≤ most) }
 {
     let Some(list) = list_of(value) else {

@@ -26,13 +26,15 @@ HasBandAt band place s = (end : End) → IsStop s.grid (shifted end (band_stops 
 
 -- so they are at each state of the guide's moves
 abbrev pub StaysInBand : List State → Guide → ℕ → Type 0
-StaysInBand states g place = (i : ℕ) (s : State) → g.first ≤ i → i ≤ g.last + 1 → slice_get states i ≡ Some s → HasBandAt g.band place s
+StaysInBand states g place = (i : ℕ) (s : State) → g.first ≤ i → i ≤ g.last + 1 → slice_get states i ≡ Some s
+    → HasBandAt g.band place s
 
 -- the flat point lies in the shrunk panel
 abbrev pub IsOnPanel : Tree → ℕ → Point → Type 0
 IsOnPanel t panel p = InShrunk (shape_at t panel).margin (shape_at t panel).places p.x p.y (pos 1)
 
--- the guide fits a carton and the states of its plan: its edge is a free joint, its moves are moves of the plan, at the states of
+-- the guide fits a carton and the states of its plan: its edge is a free joint, its moves are moves of the
+-- plan, at the states of
 -- these its band stays within two right angles either way, and its probes lie in the shrunk flap
 pub record IsFitting (t : Tree) (states : List State) (g : Guide) : Type 0 where
   pub flap : ℕ

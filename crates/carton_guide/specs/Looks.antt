@@ -16,8 +16,11 @@ probe_at motion turns n d p = placed (fold_at motion n d) turns (flat_at p.x p.y
 
 -- at that moment some probe lies in some chosen body
 abbrev pub IsSomeIn : Motion → List Turn → List Point → List ℤ → List Cuboid → List Bool → ℕ → ℕ → ℕ → Type 0
-IsSomeIn motion turns probes stroke bodies chosen i n d = Any (λ p. IsInSome stroke bodies chosen i n d (probe_at motion turns n d p)) probes
+IsSomeIn motion turns probes stroke bodies chosen i n d =
+    Any (λ p. IsInSome stroke bodies chosen i n d (probe_at motion turns n d p)) probes
 
 -- and none of them is deeper than the gap in one
-abbrev pub AreNoneDeep : Motion → List Turn → List Point → ℤ → List ℤ → List Cuboid → List Bool → ℕ → ℕ → ℕ → Type 0
-AreNoneDeep motion turns probes gap stroke bodies chosen i n d = All (λ p. IsDeepInNone gap stroke bodies chosen i n d (probe_at motion turns n d p)) probes
+abbrev pub AreNoneDeep : Motion → List Turn → List Point → ℤ → List ℤ → List Cuboid → List Bool → ℕ → ℕ → ℕ
+    → Type 0
+AreNoneDeep motion turns probes gap stroke bodies chosen i n d =
+    All (λ p. IsDeepInNone gap stroke bodies chosen i n d (probe_at motion turns n d p)) probes

@@ -1,18 +1,19 @@
-ghost use Rattle.std.specs.Prelude.{◌≡◌, ℕ, ◌<◌, ◌≤◌, ◌^◌, ◌*◌, length, ℤ, pos, ◌+ℤ◌, ◌-ℤ◌, ◌*ℤ◌, ◌≤ℤ◌, unsigned_abs};
+ghost use Rattle.std.specs.Prelude.{◌≡◌, ℕ, ◌<◌, ◌≤◌, ◌^◌, ◌*◌, length, ℤ, pos, ◌+ℤ◌, ◌-ℤ◌, ◌*ℤ◌, neg_ℤ};
+ghost use Rattle.std.specs.Prelude.{◌≤ℤ◌, unsigned_abs};
 ghost use Rattle.std.specs.Int.{int_min};
 ghost use Rattle.carton_base.specs.Rounding.{IsBetween};
 ghost use Rattle.carton_base.specs.declared.limits.TheConstants.{MOST_STATES};
 ghost use Rattle.carton_bodies.specs.Boxes.{IsStroke};
 ghost use Rattle.carton_enclose.specs.Held.{size_of};
 ghost use Rattle.carton_model.specs.Parting.{Position, along as along_normal};
-ghost use Rattle.carton_guide.specs.Depths.{IsDepthAt, IsDepthIn};
+ghost use Rattle.carton_guide.specs.Depths.{IsDepthAt, IsDepthIn, IsScaled};
 ghost use Rattle.carton_guide.specs.Faces.{side_of, sides_of};
 ghost use Rattle.carton_guide.specs.Spots.{IsAt, IsSmall, IsNarrow};
 
 use crate::face::Face;
-use crate::shift::{rate_along, shift_over};
+use crate::shift::{ends_of, rate_along, shift_over};
 use crate::spot::Spot;
-use carton_base::{Bounds, Piece, UNIT, difference, product, sum};
+use carton_base::{Bounds, Piece, UNIT, product};
 
 // c times x, a number of units.
 fn times(c: i8, x: i128) -> i128
@@ -26,22 +27,16 @@ fn times(c: i8, x: i128) -> i128
 // c times a number within the bounds.
 fn scaled(c: i8, all: Bounds) -> Bounds
     requires { size_of all.lo all.hi ≤ 2 ^ 63 }
-    ensures holds { (x : ℤ) (v : ℕ) → IsBetween all.lo all.hi x v → IsBetween result.lo result.hi (c *ℤ x) v }
+    ensures scaled { IsScaled c all.lo all.hi result.lo result.hi }
     ensures size { size_of result.lo result.hi ≤ 2 ^ 70 }
-    ensures close { (result.hi -ℤ result.lo) ≤ℤ (pos 128 *ℤ (all.hi -ℤ all.lo)) }
 {
-    let low = times(c, all.lo);
-    let high = times(c, all.hi);
-    if c < 0 {
-        return Bounds { lo: high, hi: low };
-    }
-    Bounds { lo: low, hi: high }
+    ends_of(times(c, all.lo), times(c, all.hi))
 }
 
 // A number within the first bounds and one within the second, added.
 fn added(a: Bounds, b: Bounds) -> Bounds
-    requires first { size_of a.lo a.hi ≤ 2 ^ 72 }
-    requires second { size_of b.lo b.hi ≤ 2 ^ 72 }
+    requires first { size_of a.lo a.hi ≤ 2 ^ 117 }
+    requires second { size_of b.lo b.hi ≤ 2 ^ 117 }
     ensures low { result.lo ≡ a.lo +ℤ b.lo }
     ensures high { result.hi ≡ a.hi +ℤ b.hi }
 {
@@ -51,10 +46,31 @@ fn added(a: Bounds, b: Bounds) -> Bounds
     }
 }
 
+// A number within the bounds, with its sign turned.
+fn turned(all: Bounds) -> Bounds
+    requires { size_of all.lo all.hi ≤ 2 ^ 116 }
+    ensures low { result.lo ≡ neg_ℤ all.hi }
+    ensures high { result.hi ≡ neg_ℤ all.lo }
+{
+    Bounds {
+        lo: -all.hi,
+        hi: -all.lo,
+    }
+}
+
+// This number alone.
+fn exactly(x: i128) -> Bounds
+    ensures low { result.lo ≡ x }
+    ensures high { result.hi ≡ x }
+{
+    Bounds { lo: x, hi: x }
+}
+
 // How far the spot lies along the normal of the half-space.
 fn along(face: &Face, spot: &Spot) -> Bounds
     requires { IsSmall spot.now }
-    ensures holds { (q : Position) → IsAt spot.now q → IsBetween result.lo result.hi (along_normal face.now.u face.now.v face.now.s q) (unsigned_abs q.w) }
+    ensures holds { (q : Position) → IsAt spot.now q
+        → IsBetween result.lo result.hi (along_normal face.now.u face.now.v face.now.s q) (unsigned_abs q.w) }
     ensures size { size_of result.lo result.hi ≤ 2 ^ 72 }
     ensures close { IsNarrow spot.now → result.hi ≤ℤ (result.lo +ℤ pos (6912 * 2 ^ 27)) }
 {
@@ -72,12 +88,9 @@ fn depth_at(face: &Face, stroke: [i32; 3], step: u32, piece: Piece, spot: &Spot)
     ensures { IsDepthAt (side_of face.now) stroke step spot.now piece.index piece.depth result }
 {
     let shift = shift_over(rate_along(stroke, face), step, piece);
-    let place = along(face, spot);
     let offset = product::<31, 40>(i128::from(face.offset), UNIT);
-    Bounds {
-        lo: difference::<117>(sum::<116>(offset, shift.lo), place.hi),
-        hi: difference::<117>(sum::<116>(offset, shift.hi), place.lo),
-    }
+    let place = turned(along(face, spot));
+    added(added(exactly(offset), shift), place)
 }
 
 // The lesser of two depths.

@@ -14,9 +14,9 @@ ghost use Rattle.carton_guide.specs.Guides.{IsFlap, IsFitting, InWindow, StaysIn
 ghost use Rattle.carton_guide.specs.Notes.{IsGuideNote, IsHeldThrough, IsLooseDuring, IsWellHeld};
 
 use crate::bands::banded_move;
-use crate::looking::{Course, Holders};
+use crate::holders::Holders;
 use crate::note::{End, GuideNote};
-use crate::watching::loose_moment;
+use crate::watching::{Course, loose_moment};
 use carton_base::{Cuboid, EdgeId, Guide, Moment, Motion, PanelId, State};
 use carton_text::Plan;
 use carton_tree::Carton;
@@ -60,7 +60,8 @@ fn window_move(states: &[State], guide: &Guide, place: u8, end: End, step: u16) 
     requires band { StaysInBand states.now guide.now place }
     requires window { InWindow guide.now step }
     requires inside { step + 1 < length states.now }
-    ensures folds { (s r : State) → IsMove states.now step s r → (n d : ℕ) → fold_at result n d ≡ banded_folds end guide.now.band place s r n d }
+    ensures folds { (s r : State) → IsMove states.now step s r → (n d : ℕ)
+        → fold_at result n d ≡ banded_folds end guide.now.band place s r n d }
     ensures motion { IsMotion MOST_JOINTS result }
 {
     let i = usize::from(step);
@@ -92,8 +93,11 @@ fn loose_during(
     requires flap { IsFlap carton.now guide.now.edge.0 flap.panel.0 flap.place }
     requires window { InWindow guide.now step }
     ensures held { result ≡ None → (s r : State) → IsMove states.now step s r
-        → IsHeldThrough carton.now guide.now holders.now.stroke holders.now.bodies.now holders.now.chosen.now flap.panel.0 flap.place end step s r }
-    ensures loose { IfSome result (IsLooseDuring carton.now states.now guide.now holders.now.stroke holders.now.bodies.now holders.now.chosen.now (pos holders.now.slack) flap.panel.0 flap.place end step) }
+        → IsHeldThrough carton.now guide.now holders.now.stroke holders.now.bodies.now holders.now.chosen.now
+        flap.panel.0 flap.place end step s r }
+    ensures loose { IfSome result (IsLooseDuring carton.now states.now guide.now holders.now.stroke
+        holders.now.bodies.now holders.now.chosen.now (pos holders.now.slack) flap.panel.0 flap.place end
+        step) }
 {
     keeps_shape(carton, flap.panel);
     let course = Course {
@@ -121,8 +125,11 @@ fn loose_end(
     requires flap { IsFlap carton.now guide.now.edge.0 flap.panel.0 flap.place }
     requires window { InWindow guide.now step }
     ensures held { result ≡ None → (s r : State) (end : End) → IsMove states.now step s r
-        → IsHeldThrough carton.now guide.now holders.now.stroke holders.now.bodies.now holders.now.chosen.now flap.panel.0 flap.place end step s r }
-    ensures loose { IfSome result (λ l. IsLooseDuring carton.now states.now guide.now holders.now.stroke holders.now.bodies.now holders.now.chosen.now (pos holders.now.slack) flap.panel.0 flap.place l.0 step l.1) }
+        → IsHeldThrough carton.now guide.now holders.now.stroke holders.now.bodies.now holders.now.chosen.now
+        flap.panel.0 flap.place end step s r }
+    ensures loose { IfSome result (λ l. IsLooseDuring carton.now states.now guide.now holders.now.stroke
+        holders.now.bodies.now holders.now.chosen.now (pos holders.now.slack) flap.panel.0 flap.place l.0 step
+        l.1) }
 {
     if let Some(moment) = loose_during(carton, states, guide, flap, holders, End::Under, step) {
         return Some((End::Under, moment));
@@ -152,7 +159,8 @@ pub fn held(
     requires one_each { length chosen.now ≡ length bodies.now }
     requires some_slack { 1 ≤ slack }
     ensures note { IsGuideNote carton.now plan.now guide.now stroke bodies.now chosen.now slack result }
-    ensures well_held { IsWellHeld carton.now plan.now.states guide.now stroke bodies.now chosen.now (pos slack) → result ≡ GuideNote.Held }
+    ensures well_held { IsWellHeld carton.now plan.now.states guide.now stroke bodies.now chosen.now (pos
+        slack) → result ≡ GuideNote.Held }
 {
     keeps_rules(carton);
     let states = plan.states.as_slice();

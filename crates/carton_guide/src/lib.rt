@@ -4,8 +4,8 @@
 mod bands;
 mod depth;
 mod face;
+mod holders;
 mod holding;
-mod looking;
 mod note;
 mod shift;
 mod spot;

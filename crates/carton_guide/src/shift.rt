@@ -1,4 +1,5 @@
 ghost use Rattle.std.specs.Prelude.{◌≡◌, ◌+◌, ◌-◌, ◌*◌, ◌<◌, ◌≤◌, ◌^◌, pos, ◌*ℤ◌, unsigned_abs};
+ghost use Rattle.std.specs.Int.{int_min, int_max};
 ghost use Rattle.carton_base.specs.declared.limits.TheConstants.{MOST_STATES, MOST_HALVINGS};
 ghost use Rattle.carton_bodies.specs.Bodies.{stroke_along};
 ghost use Rattle.carton_bodies.specs.Boxes.{IsStroke};
@@ -40,6 +41,17 @@ fn pieces_before(step: u32, piece: Piece) -> i128
     sum::<48>(gone, i128::from(first.num))
 }
 
+/// The bounds of two numbers.
+pub fn ends_of(a: i128, b: i128) -> Bounds
+    ensures low { result.lo ≡ int_min a b }
+    ensures high { result.hi ≡ int_max a b }
+{
+    Bounds {
+        lo: a.min(b),
+        hi: a.max(b),
+    }
+}
+
 /// How far a body that goes so far in each move shifts over the piece of this move, in units of 2^-40.
 pub fn shift_over(rate: i128, step: u32, piece: Piece) -> Bounds
     requires rate { unsigned_abs rate ≤ 2 ^ 26 }
@@ -49,9 +61,5 @@ pub fn shift_over(rate: i128, step: u32, piece: Piece) -> Bounds
 {
     let more = product::<26, 40>(rate, units_of(piece.depth));
     let begin = product::<66, 49>(more, pieces_before(step, piece));
-    let end = sum::<115>(begin, more);
-    Bounds {
-        lo: begin.min(end),
-        hi: begin.max(end),
-    }
+    ends_of(begin, sum::<115>(begin, more))
 }

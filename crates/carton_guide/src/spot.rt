@@ -38,7 +38,8 @@ pub fn spot_over<E: Enclose>(turns: &[Turn], motion: &Motion, probe: &Point, pie
     requires turns { All IsTurn turns.now }
     requires motion { IsMotion MOST_JOINTS motion.now }
     requires near { IsNear probe.now }
-    ensures at { Within piece.index piece.depth (λ n d. IsAt result (probe_at motion.now turns.now n d probe.now)) }
+    ensures at { Within piece.index piece.depth
+        (λ n d. IsAt result (probe_at motion.now turns.now n d probe.now)) }
     ensures small { IsSmall result }
     ensures narrow { piece.depth ≡ 36 → IsNarrow result }
 {

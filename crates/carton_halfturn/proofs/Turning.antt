@@ -43,28 +43,37 @@ pub record Turns (m m' d c s c' s' : ℤ) : Type 0 where
   pub forward : pos 0 ≤ℤ (c *ℤ s' -ℤ s *ℤ c')
   pub most : (c *ℤ s' -ℤ s *ℤ c') ≤ℤ (d *ℤ (m' -ℤ m))
 
-pub turns : (m m' d c s c' s' : ℤ) → pos 0 ≤ℤ d → m ≤ℤ m' → IsHalf m d c s → IsHalf m' d c' s' → Turns m m' d c s c' s'
+pub turns : (m m' d c s c' s' : ℤ) → pos 0 ≤ℤ d → m ≤ℤ m' → IsHalf m d c s → IsHalf m' d c' s'
+    → Turns m m' d c s c' s'
 turns m m' d c s c' s' d0 le (inl h) (inl k) = rw (h.first, h.second, k.first, k.second)
     (let a = simp laid_out at (nonneg_product d (m' -ℤ m) d0 (omega (arith, sums))) in
     record { forward = simp laid_out (omega (arith, sums, a)); most = simp laid_out (omega (arith, sums)) })
 turns m m' d c s c' s' d0 le (inl h) (inr k) = rw (h.first, h.second, k.first, k.second)
-    (let a = simp laid_out at (nonneg_product (m' -ℤ d) (d -ℤ m) (omega (arith, sums, k.past)) (omega (arith, sums, h.within))) in
+    (let a = simp laid_out at (nonneg_product (m' -ℤ d) (d -ℤ m) (omega (arith, sums, k.past))
+    (omega (arith, sums, h.within))) in
     let b = simp laid_out at (nonneg_product (m' -ℤ d) m (omega (arith, sums, k.past)) h.begun) in
     let e = simp laid_out at (nonneg_product d (d -ℤ m) d0 (omega (arith, sums, h.within))) in
-    record { forward = simp laid_out (omega (arith, sums, b, e)); most = simp laid_out (omega (arith, sums, a)) })
+    record {
+      forward = simp laid_out (omega (arith, sums, b, e));
+      most = simp laid_out (omega (arith, sums, a));
+    })
 turns m m' d c s c' s' d0 le (inr h) (inl k) = absurd (omega (arith, sums, h.past, k.within))
 turns m m' d c s c' s' d0 le (inr h) (inr k) = rw (h.first, h.second, k.first, k.second)
     (let a = simp laid_out at (nonneg_product d (m' -ℤ m) d0 (omega (arith, sums))) in
     record { forward = simp laid_out (omega (arith, sums, a)); most = simp laid_out (omega (arith, sums)) })
 
 -- the difference of two cosines
-gap_is : (c s c' s' : ℤ) → (c *ℤ c -ℤ s *ℤ s) *ℤ (c' *ℤ c' +ℤ s' *ℤ s') -ℤ (c' *ℤ c' -ℤ s' *ℤ s') *ℤ (c *ℤ c +ℤ s *ℤ s)
+gap_is : (c s c' s' : ℤ) → (c *ℤ c -ℤ s *ℤ s) *ℤ (c' *ℤ c' +ℤ s' *ℤ s') -ℤ (c' *ℤ c' -ℤ s' *ℤ s')
+    *ℤ (c *ℤ c +ℤ s *ℤ s)
     ≡ pos 2 *ℤ ((c *ℤ s' -ℤ s *ℤ c') *ℤ (c *ℤ s' +ℤ s *ℤ c'))
 gap_is c s c' s' = simp laid_out (omega (arith, sums))
 
-near : (d g x z h : ℤ) → pos 0 ≤ℤ d → pos 0 ≤ℤ g → pos 0 ≤ℤ z → x ≤ℤ (d *ℤ g) → ((d *ℤ d) *ℤ z) ≤ℤ h → ((pos 2 *ℤ (x *ℤ z)) *ℤ d) ≤ℤ (pos 2 *ℤ (g *ℤ h))
+near : (d g x z h : ℤ) → pos 0 ≤ℤ d → pos 0 ≤ℤ g → pos 0 ≤ℤ z → x ≤ℤ (d *ℤ g) → ((d *ℤ d) *ℤ z) ≤ℤ h
+    → ((pos 2 *ℤ (x *ℤ z)) *ℤ d) ≤ℤ (pos 2 *ℤ (g *ℤ h))
 near d g x z h d0 g0 z0 xd zh =
-    let a = simp laid_out at (nonneg_product (d *ℤ g -ℤ x) (z *ℤ d) (omega (arith, sums)) (nonneg_product z d z0 d0)) in
+    let a =
+    simp laid_out at (nonneg_product (d *ℤ g -ℤ x) (z *ℤ d) (omega (arith, sums))
+    (nonneg_product z d z0 d0)) in
     let b = simp laid_out at (nonneg_product g (h -ℤ (d *ℤ d) *ℤ z) g0 (omega (arith, sums))) in
     simp laid_out (omega (arith, sums, a, b))
 
@@ -84,7 +93,8 @@ cosine_falls m m' d c s c' s' d0 le h k =
     let v : ℤ = c *ℤ c +ℤ s *ℤ s in
     let w : ℤ = c' *ℤ c' +ℤ s' *ℤ s' in
     let e = gap_is c s c' s' in
-    let z0 : pos 0 ≤ℤ z = omega (arith, sums, nonneg_product c s' p.first q.second, nonneg_product s c' p.second q.first) in
+    let z0 : pos 0 ≤ℤ z =
+    omega (arith, sums, nonneg_product c s' p.first q.second, nonneg_product s c' p.second q.first) in
     let one = simp laid_out at (nonneg_square (c -ℤ s')) in
     let two = simp laid_out at (nonneg_square (s -ℤ c')) in
     let mean : (z +ℤ z) ≤ℤ (v +ℤ w) = omega (arith, ints, one, two) in

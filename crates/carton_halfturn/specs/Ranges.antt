@@ -20,7 +20,8 @@ pub record Under (n d p : ℤ) : Type 0 where
 abbrev pub IsMirror : ℤ → ℤ → ℤ → Type 0
 IsMirror n d p = Middle n d p ⊎ Over n d p ⊎ Under n d p
 
--- m is the size of the fold from low to high that lies nearest to flat: they lie above it, below it, or across it
+-- m is the size of the fold from low to high that lies nearest to flat: they lie above it, below it, or
+-- across it
 pub record Above (low m : ℤ) : Type 0 where
   pub after : pos 0 ≤ℤ low
   pub is : m ≡ low
@@ -52,11 +53,13 @@ pub record IsTaken (low high d p : ℤ) : Type 0 where
 
 -- no fold from low to high, in whatever parts k of 1 / d it is counted, has a mirrored fold past p / d
 abbrev pub IsHighest : ℤ → ℤ → ℤ → ℤ → Type 0
-IsHighest low high d p = (k n q : ℤ) → pos 0 <ℤ k → (low *ℤ k) ≤ℤ n → n ≤ℤ (high *ℤ k) → IsMirror n (d *ℤ k) q → q ≤ℤ (p *ℤ k)
+IsHighest low high d p = (k n q : ℤ) → pos 0 <ℤ k → (low *ℤ k) ≤ℤ n → n ≤ℤ (high *ℤ k) → IsMirror n (d *ℤ k) q
+    → q ≤ℤ (p *ℤ k)
 
 -- no such fold has a mirrored fold short of p / d
 abbrev pub IsLowest : ℤ → ℤ → ℤ → ℤ → Type 0
-IsLowest low high d p = (k n q : ℤ) → pos 0 <ℤ k → (low *ℤ k) ≤ℤ n → n ≤ℤ (high *ℤ k) → IsMirror n (d *ℤ k) q → (p *ℤ k) ≤ℤ q
+IsLowest low high d p = (k n q : ℤ) → pos 0 <ℤ k → (low *ℤ k) ≤ℤ n → n ≤ℤ (high *ℤ k) → IsMirror n (d *ℤ k) q
+    → (p *ℤ k) ≤ℤ q
 
 -- the folds from low to high all lie short of a right angle, or all past it
 abbrev pub IsOneSided : ℤ → ℤ → ℤ → Type 0

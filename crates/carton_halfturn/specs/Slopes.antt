@@ -12,7 +12,8 @@ IsGentle f lo hi = let step = f.to -ℤ f.from in
 
 -- the spread is at most 4 * |to - from| / den and 4 units
 abbrev pub IsModest : FoldSpan → ℤ → ℤ → Type 0
-IsModest f lo hi = ((hi -ℤ lo) *ℤ f.den) ≤ℤ (pos (4 * unsigned_abs (f.to -ℤ f.from)) *ℤ unit +ℤ pos 4 *ℤ f.den)
+IsModest f lo hi =
+    ((hi -ℤ lo) *ℤ f.den) ≤ℤ (pos (4 * unsigned_abs (f.to -ℤ f.from)) *ℤ unit +ℤ pos 4 *ℤ f.den)
 
 -- both bounds lie from -16 to 16
 pub record InSixteen (lo hi : ℤ) : Type 0 where
@@ -27,7 +28,8 @@ IsBend f r = let step = f.to -ℤ f.from in IsCeil ((pos 2 *ℤ (step *ℤ step)
 abbrev pub IsReach : FoldSpan → ℤ → Type 0
 IsReach f r = IsCeil (pos (2 * unsigned_abs (f.to -ℤ f.from)) *ℤ unit) f.den r
 
--- the rates of a smooth span: the change from a value of the first bounds to one of the last, widened by the bend r
+-- the rates of a smooth span: the change from a value of the first bounds to one of the last, widened by the
+-- bend r
 pub record ByChord (f : FoldSpan) (first last rate : Bounds) : Type 0 where
   pub smooth : IsSmooth f
   pub r : ℤ

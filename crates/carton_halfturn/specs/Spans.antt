@@ -1,5 +1,6 @@
 -- Folds that go evenly from one end to another.
-use Rattle.std.specs.Prelude.{◌≡◌, ◌⊎◌, ℕ, ◌*◌, ◌≤◌, ℤ, pos, negsuc, neg_ℤ, ◌+ℤ◌, ◌-ℤ◌, ◌*ℤ◌, ◌≤ℤ◌, unsigned_abs}
+use Rattle.std.specs.Prelude.{◌≡◌, ◌⊎◌, ℕ, ◌*◌, ◌≤◌, ℤ, pos, negsuc, neg_ℤ, ◌+ℤ◌, ◌-ℤ◌, ◌*ℤ◌, ◌≤ℤ◌}
+use Rattle.std.specs.Prelude.{unsigned_abs}
 use Rattle.carton_base.specs.Rounding.{unit, IsBetween}
 use Rattle.carton_base.specs.Moments.{IsMoment}
 use Rattle.carton_model.specs.HalfTurns.{cosine, sine, square_sum, moving, Leads}
@@ -29,14 +30,17 @@ EnclosesCosine f lo hi = (n d : ℕ) → IsMoment n d → IsBetween lo hi (cosin
 abbrev pub EnclosesSine : FoldSpan → ℤ → ℤ → Type 0
 EnclosesSine f lo hi = (n d : ℕ) → IsMoment n d → IsBetween lo hi (sine_at f n d) (squares_at f n d)
 
--- at every moment t the cosine, or the sine, is that of the first end and t times some number within the bounds
+-- at every moment t the cosine, or the sine, is that of the first end and t times some number within the
+-- bounds
 abbrev pub LeadsCosine : FoldSpan → ℤ → ℤ → Type 0
 LeadsCosine f lo hi = let e = unsigned_abs f.den in
-    (n d : ℕ) → IsMoment n d → Leads lo hi (cosine f.from e) (square_sum f.from e) n d (cosine_at f n d) (squares_at f n d)
+    (n d : ℕ) → IsMoment n d
+    → Leads lo hi (cosine f.from e) (square_sum f.from e) n d (cosine_at f n d) (squares_at f n d)
 
 abbrev pub LeadsSine : FoldSpan → ℤ → ℤ → Type 0
 LeadsSine f lo hi = let e = unsigned_abs f.den in
-    (n d : ℕ) → IsMoment n d → Leads lo hi (sine f.from e) (square_sum f.from e) n d (sine_at f n d) (squares_at f n d)
+    (n d : ℕ) → IsMoment n d
+    → Leads lo hi (sine f.from e) (square_sum f.from e) n d (sine_at f n d) (squares_at f n d)
 
 -- both ends lie from one fold to another
 pub record Within (f : FoldSpan) (low high : ℤ) : Type 0 where
@@ -64,11 +68,13 @@ pub record IsRangeOf (f : FoldSpan) (low high d : ℤ) : Type 0 where
 
 -- the spread of bounds of cosine or sine: 2 * |to - from| / den and two units
 abbrev pub IsNarrow : FoldSpan → ℤ → ℤ → Type 0
-IsNarrow f lo hi = ((hi -ℤ lo) *ℤ f.den) ≤ℤ (pos (2 * unsigned_abs (f.to -ℤ f.from)) *ℤ unit +ℤ pos 2 *ℤ f.den)
+IsNarrow f lo hi =
+    ((hi -ℤ lo) *ℤ f.den) ≤ℤ (pos (2 * unsigned_abs (f.to -ℤ f.from)) *ℤ unit +ℤ pos 2 *ℤ f.den)
 
 -- both ends lie within a right angle, or both lie past it the same way
 abbrev pub IsOneWay : FoldSpan → Type 0
-IsOneWay f = Within f (neg_ℤ f.den) f.den ⊎ Within f f.den (f.den +ℤ f.den) ⊎ Within f (neg_ℤ (f.den +ℤ f.den)) (neg_ℤ f.den)
+IsOneWay f = Within f (neg_ℤ f.den) f.den ⊎ Within f f.den (f.den +ℤ f.den)
+    ⊎ Within f (neg_ℤ (f.den +ℤ f.den)) (neg_ℤ f.den)
 
 -- both ends so lie, and the fold changes by at most a right angle
 pub record IsSmooth (f : FoldSpan) : Type 0 where

@@ -1,5 +1,6 @@
 ghost use Rattle.std.specs.Prelude.{◌≡◌, ◌⊎◌, ◌*◌, ◌≤◌, ◌^◌, pos, neg_ℤ, ◌-ℤ◌, ◌≤ℤ◌, ◌<ℤ◌, unsigned_abs};
-ghost use Rattle.carton_halfturn.specs.Ranges.{IsMirror, IsNearest, IsFarthest, IsTaken, IsHighest, IsLowest, IsOneSided};
+ghost use Rattle.carton_halfturn.specs.Ranges.{IsMirror, IsNearest, IsFarthest, IsTaken, IsHighest};
+ghost use Rattle.carton_halfturn.specs.Ranges.{IsLowest, IsOneSided};
 ghost use Rattle.carton_halfturn.specs.Spans.{IsRangeOf};
 
 use crate::folds::Fold;
@@ -115,15 +116,23 @@ fn mirrored(num: i64, r: Range) -> Fold
     Fold { num, den: r.den }
 }
 
+// The greater of two folds.
+fn higher(a: Fold, b: Fold) -> Fold
+    requires { a.den ≡ b.den }
+    ensures den { result.den ≡ a.den }
+    ensures picked { (result.num ≡ a.num) ⊎ (result.num ≡ b.num) }
+    ensures above { (a.num ≤ℤ result.num) × (b.num ≤ℤ result.num) }
+{
+    if a.num >= b.num { a } else { b }
+}
+
 // The mirrored fold of the end whose sine is the greater.
 fn higher_end(r: Range) -> Fold
     ensures den { result.den ≡ r.den }
     ensures taken { IsTaken r.low r.high r.den result.num }
     ensures highest { IsOneSided r.low r.high r.den → IsHighest r.low r.high r.den result.num }
 {
-    let first = mirrored(r.low, r);
-    let last = mirrored(r.high, r);
-    if first.num >= last.num { first } else { last }
+    higher(mirrored(r.low, r), mirrored(r.high, r))
 }
 
 /// The fold within a right angle that has the greatest sine of the range.

@@ -1,11 +1,12 @@
-ghost use Rattle.std.specs.Prelude.{◌≡◌, IsTrue, ◌↔◌, ◌*◌, ◌≤◌, ◌^◌, pos, neg_ℤ, ◌-ℤ◌, ◌+ℤ◌, ◌*ℤ◌, ◌≤ℤ◌, unsigned_abs};
+ghost use Rattle.std.specs.Prelude.{◌≡◌, IsTrue, ◌↔◌, ◌*◌, ◌≤◌, ◌^◌, pos, neg_ℤ, ◌-ℤ◌, ◌+ℤ◌, ◌*ℤ◌, ◌≤ℤ◌};
+ghost use Rattle.std.specs.Prelude.{unsigned_abs};
 ghost use Rattle.carton_halfturn.specs.Spans.{LeadsCosine, LeadsSine, InOneStretch, IsEven};
 ghost use Rattle.carton_halfturn.specs.Slopes.{IsGentle, IsModest, InSixteen, IsRate, IsBend, IsReach};
 ghost use Rattle.carton_halfturn.specs.Values.{InUnit};
 
 use crate::ranges::{Range, range_of};
-use crate::spans::{FoldSpan, first_fold, last_fold};
-use crate::values::{cos_at, sin_at};
+use crate::spans::FoldSpan;
+use crate::values::{cos_at, ends_of, sin_at};
 use carton_base::{Bounds, fraction, square};
 
 // The folds lie within a right angle, or past it one way, and no more than a right angle apart.
@@ -81,7 +82,11 @@ fn either_way(by: i128) -> Bounds
 fn rates(f: FoldSpan, first: Bounds, last: Bounds) -> Bounds
     requires first { InUnit first.lo first.hi }
     requires last { InUnit last.lo last.hi }
+    requires first_tight { (first.hi -ℤ first.lo) ≤ℤ pos 1 }
+    requires last_tight { (last.hi -ℤ last.lo) ≤ℤ pos 1 }
     ensures rate { IsRate f first last result }
+    ensures spread { InOneStretch f → IsGentle f result.lo result.hi }
+    ensures modest { IsModest f result.lo result.hi }
     ensures within { InSixteen result.lo result.hi }
 {
     if is_even(range_of(f)) {
@@ -98,7 +103,8 @@ pub fn cos_slope(f: FoldSpan) -> Bounds
     ensures modest { IsModest f result.lo result.hi }
     ensures within { InSixteen result.lo result.hi }
 {
-    rates(f, cos_at(first_fold(f)), cos_at(last_fold(f)))
+    let ends = ends_of(f);
+    rates(f, cos_at(ends.first), cos_at(ends.last))
 }
 
 /// Bounds of the rate at which the sine leaves that of the first end, likewise.
@@ -108,5 +114,6 @@ pub fn sin_slope(f: FoldSpan) -> Bounds
     ensures modest { IsModest f result.lo result.hi }
     ensures within { InSixteen result.lo result.hi }
 {
-    rates(f, sin_at(first_fold(f)), sin_at(last_fold(f)))
+    let ends = ends_of(f);
+    rates(f, sin_at(ends.first), sin_at(ends.last))
 }

@@ -1,6 +1,4 @@
-ghost use Rattle.std.specs.Prelude.{◌≡◌, ◌*◌, ◌≤◌, ◌^◌, pos, ◌≤ℤ◌, ◌<ℤ◌, unsigned_abs};
-
-use crate::folds::Fold;
+ghost use Rattle.std.specs.Prelude.{◌*◌, ◌≤◌, ◌^◌, pos, ◌≤ℤ◌, ◌<ℤ◌, unsigned_abs};
 
 /// A fold that goes evenly from from/den to to/den, both from -2 to 2.
 #[derive(Clone, Copy, Debug, PartialEq, Eq)]
@@ -12,26 +10,4 @@ pub struct FoldSpan {
     pub ghost fine: { den ≤ℤ pos (2 ^ 40) },
     pub ghost first: { unsigned_abs from ≤ 2 * unsigned_abs den },
     pub ghost second: { unsigned_abs to ≤ 2 * unsigned_abs den },
-}
-
-// The fold at the first end.
-pub fn first_fold(f: FoldSpan) -> Fold
-    ensures num { result.num ≡ f.from }
-    ensures den { result.den ≡ f.den }
-{
-    Fold {
-        num: f.from,
-        den: f.den,
-    }
-}
-
-// The fold at the last end.
-pub fn last_fold(f: FoldSpan) -> Fold
-    ensures num { result.num ≡ f.to }
-    ensures den { result.den ≡ f.den }
-{
-    Fold {
-        num: f.to,
-        den: f.den,
-    }
 }

@@ -1,14 +1,17 @@
 -- Named files in memory, and what the shelves and sinks over memory show.
-use Rattle.std.specs.Prelude.{◌≡◌, ◌⊎◌, ℕ, Contains, List, [], ◌∷◌, Option, Some, None, string_bytes, if◌then◌else◌}
+use Rattle.std.specs.Prelude.{◌≡◌, ◌⊎◌, ℕ, Contains, List, [], ◌∷◌, Option, Some, None, string_bytes}
+use Rattle.std.specs.Prelude.{if◌then◌else◌}
 use Rattle.std.specs.Str.{bytes_eq}
 use Rattle.carton_io.specs.declared.memory_shelf.NamedFile.{NamedFile}
 
 -- the bytes of the first file of that name
 abbrev pub content_of : List NamedFile → List ℕ → Option (List ℕ)
 content_of [] name = None
-content_of (f ∷ fs) name = if bytes_eq (string_bytes f.name) name then Some f.bytes.items else content_of fs name
+content_of (f ∷ fs) name = if bytes_eq (string_bytes f.name) name then Some f.bytes.items else content_of fs
+    name
 
--- files, the numbers of the reads that fail, the number of the next read, the faults so far, the name that failed last, and the bytes of the last read
+-- files, the numbers of the reads that fail, the number of the next read, the faults so far, the name that
+-- failed last, and the bytes of the last read
 pub record ShelfView : Type 0 where
   pub files : List NamedFile
   pub failing : List ℕ

@@ -13,7 +13,8 @@ pub trait FileSource {
 
     /// The file of that name, from its first byte on.
     fn open_named(&self, name: &str) -> io::Result<Self::File>
-        ensures { IfOk result (λ file. IfSome (content self.now name.now) (λ bytes. Self.File.remaining file ≡ Some bytes)) };
+        ensures { IfOk result
+            (λ file. IfSome (content self.now name.now) (λ bytes. Self.File.remaining file ≡ Some bytes)) };
 }
 
 /// The files of the system by their paths, of which nothing is told.

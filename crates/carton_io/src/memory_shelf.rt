@@ -1,4 +1,6 @@
-ghost use Rattle.std.specs.Prelude.{◌≡◌, ◌≢◌, ◌⊎◌, ◌↔◌, ℕ, ◌^◌, ◌<◌, ◌≤◌, ◌+◌, ◌-◌, min, List, length, Option, Some, None, IfOk, IfSome, OnErr, IsErrOf, IsErr, IsTrue, Contains, option_map, string_bytes};
+ghost use Rattle.std.specs.Prelude.{◌≡◌, ◌≢◌, ◌⊎◌, ◌↔◌, ℕ, ◌^◌, ◌<◌, ◌≤◌, ◌+◌, ◌-◌, min, List, length};
+ghost use Rattle.std.specs.Prelude.{Option, Some, None, IfOk, IfSome, OnErr, IsErrOf, IsErr, IsTrue};
+ghost use Rattle.std.specs.Prelude.{Contains, option_map, string_bytes};
 ghost use Rattle.carton_io.specs.Files.{content_of, IsDue};
 ghost use Rattle.carton_io.specs.Told.{raised, Rose};
 
@@ -132,7 +134,8 @@ impl Shelf for MemoryShelf {
 
     fn read(&mut self, alloc: Global, name: &str, limit: usize) -> Result<Vec<u8>, ShelfError>
         ensures short { IfOk result (λ v. length v.items ≤ limit) }
-        ensures told { IfOk result (λ v. IfSome (content_of self.old.files name.now) (λ bytes. v.items ≡ bytes)) }
+        ensures told { IfOk result
+            (λ v. IfSome (content_of self.old.files name.now) (λ bytes. v.items ≡ bytes)) }
         ensures had_all { IfOk result (λ v. self.new.had ≡ length v.items) }
         ensures had_more { IsErrOf result ShelfError.TooLong → limit < self.new.had }
         ensures too_long { IsErrOf result ShelfError.TooLong
@@ -149,7 +152,8 @@ impl Shelf for MemoryShelf {
         ensures failing { self.new.failing ≡ self.old.failing }
 
         // A read fails exactly where its number is in the list or no file has the name.
-        ensures due { IsDue self.old name.now → IsErrOf result ShelfError.Failed ⊎ IsErrOf result ShelfError.Memory }
+        ensures due { IsDue self.old name.now → IsErrOf result ShelfError.Failed
+            ⊎ IsErrOf result ShelfError.Memory }
         ensures only_due { IsErrOf result ShelfError.Failed → IsDue self.old name.now }
         ensures counted { self.new.reads ≡ raised self.old.reads }
     {

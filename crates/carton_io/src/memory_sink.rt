@@ -1,4 +1,5 @@
-ghost use Rattle.std.specs.Prelude.{◌≡◌, ◌<◌, ◌≤◌, ◌+◌, [], ◌++◌, List, length, take, min, Option, Some, None, IfOk, IsOk, OnOk, OnErr, unwrap_or, ◌-◌, ◌^◌, ◌↔◌, ℕ};
+ghost use Rattle.std.specs.Prelude.{◌≡◌, ◌<◌, ◌≤◌, ◌+◌, [], ◌++◌, List, length, take, min, Option, Some};
+ghost use Rattle.std.specs.Prelude.{None, IfOk, IsOk, OnOk, OnErr, unwrap_or, ◌-◌, ◌^◌, ◌↔◌, ℕ};
 ghost use Rattle.carton_io.specs.Told.{raised, Rose, GrewInPart};
 
 use crate::sink::{Sink, SinkFault};
@@ -81,7 +82,8 @@ impl Sink for MemorySink {
 
         // A piece that fits is kept, and of one that doesn't, what fits.
         ensures fits { IsOk result ↔ (length self.old.kept + length piece.now ≤ self.old.limit) }
-        ensures full { OnErr result (self.new.kept ≡ self.old.kept ++ take (self.old.limit - length self.old.kept) piece.now) }
+        ensures full { OnErr result
+            (self.new.kept ≡ self.old.kept ++ take (self.old.limit - length self.old.kept) piece.now) }
         ensures limit { self.new.limit ≡ self.old.limit }
     {
         let room = self.limit - self.kept.len();

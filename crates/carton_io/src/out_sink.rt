@@ -42,7 +42,8 @@ impl<W: Write + Drop> OutSink<W> {
     fn write_some(&mut self, piece: &[u8]) -> Result<usize, SinkFault>
         ensures some { IfOk result (λ n. 0 < n) }
         ensures bound { IfOk result (λ n. n ≤ length piece.now) }
-        ensures ok { IfOk result (λ n. Appends (W.contents self.old.out) (W.contents self.new.out) (take n piece.now)) }
+        ensures ok { IfOk result (λ n. Appends (W.contents self.old.out) (W.contents self.new.out)
+            (take n piece.now)) }
         ensures err { OnErr result (Keeps (W.contents self.old.out) (W.contents self.new.out)) }
         ensures steady { OnOk result (self.new.faults ≡ self.old.faults) }
         ensures once { OnErr result (self.new.faults ≡ raised self.old.faults) }

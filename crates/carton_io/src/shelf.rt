@@ -1,4 +1,5 @@
-ghost use Rattle.std.specs.Prelude.{◌≡◌, ◌≢◌, ℕ, ◌^◌, ◌<◌, ◌≤◌, ◌+◌, ◌-◌, min, List, length, Option, Some, None, IfOk, IfSome, IsErrOf};
+ghost use Rattle.std.specs.Prelude.{◌≡◌, ◌≢◌, ℕ, ◌^◌, ◌<◌, ◌≤◌, ◌+◌, ◌-◌, min, List, length, Option, Some};
+ghost use Rattle.std.specs.Prelude.{None, IfOk, IfSome, IsErrOf};
 ghost use Rattle.carton_io.specs.declared.shelf.ShelfError.TheVariants.{Memory};
 ghost use Rattle.carton_io.specs.Told.{raised, Rose};
 
@@ -57,7 +58,8 @@ pub trait Shelf {
         ensures cause { IsErrOf result ShelfError.Failed → Rose (faults self.old) (faults self.new) }
         ensures named { IsErrOf result ShelfError.Failed
             → IfSome (last_failed self.new) (λ n. n ≡ Some name.now) }
-        ensures unnamed { (IsErrOf result ShelfError.Failed → ⊥) → last_failed self.new ≡ last_failed self.old }
+        ensures unnamed { (IsErrOf result ShelfError.Failed → ⊥) → last_failed self.new
+            ≡ last_failed self.old }
         ensures quiet { IsErrOf result ShelfError.Memory → faults self.new ≡ faults self.old }
         ensures steady { (IsErrOf result ShelfError.Failed → ⊥) → faults self.new ≡ faults self.old }
         ensures once { IsErrOf result ShelfError.Failed → faults self.new ≡ raised (faults self.old) };

@@ -11,7 +11,8 @@ pub record Bench : Type 0 where
   pub carton : Tree
   pub slack : ℕ
 
--- the slack is one that a judge may have, and the table has the open pairs of all moves between the two states
+-- the slack is one that a judge may have, and the table has the open pairs of all moves between the two
+-- states
 pub record IsReady (carton : Tree) (slack : ℕ) (low high : State) (rows : List (List Bool)) : Type 0 where
   pub some : 1 ≤ slack
   pub narrow : slack ≤ WIDEST_SLACK

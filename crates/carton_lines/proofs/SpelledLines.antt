@@ -1,6 +1,9 @@
 -- Lines of strict texts and their spellings.
 use Rattle.std.specs.Prelude.{decimal, All}
-use Rattle.std.proofs.Common.{◌≡◌, ◌≢◌, ℕ, ◌+◌, ◌-◌, ◌<◌, ℤ, pos, negsuc, Bool, true, false, cond, not, eqb, List, [], ◌∷◌, ◌++◌, length, length-append, map, take, drop, get_or, slice_index, Some, Ok, Err, refl, sym, ap, subst, ◌∙◌, arith, append_assoc, bytes_eq, codes, zero, suc, take-append-drop}
+use Rattle.std.proofs.Common.{◌≡◌, ◌≢◌, ℕ, ◌+◌, ◌-◌, ◌<◌, ℤ, pos, negsuc, Bool, true, false, cond, not, eqb}
+use Rattle.std.proofs.Common.{List, [], ◌∷◌, ◌++◌, length, length-append, map, take, drop, get_or}
+use Rattle.std.proofs.Common.{slice_index, Some, Ok, Err, refl, sym, ap, subst, ◌∙◌, arith, append_assoc}
+use Rattle.std.proofs.Common.{bytes_eq, codes, zero, suc, take-append-drop}
 use Rattle.std.specs.Fmt.{signed_decimal}
 use Rattle.std.specs.Char.{is_ascii_digit}
 use Rattle.std.specs.List.{AllByRecursion, flat_map, list_all, join_with_byte}
@@ -33,7 +36,8 @@ drop_left (x ∷ xs) ys = drop_left xs ys
 -- a line with its line feed is whole
 pub whole_line : (line : List ℕ) → whole (line ++ codes "\n") ≡ Some line
 whole_line line =
-    let size : length (line ++ codes "\n") - 1 ≡ length line = omega (arith, length-append line (codes "\n")) in
+    let size : length (line ++ codes "\n") - 1 ≡ length line =
+    omega (arith, length-append line (codes "\n")) in
     rw (size, drop_left line (codes "\n"), take_left line (codes "\n")) refl
 
 -- and nothing else is
@@ -41,7 +45,8 @@ pub line_of_whole : (piece line : List ℕ) → whole piece ≡ Some line → pi
 line_of_whole piece line h =
     let n = length piece - 1 in
     let p = some_if (bytes_eq (drop n piece) (codes "\n")) (take n piece) line h in
-    sym (take-append-drop n piece) ∙ (λ i. sym p.1 i ++ (bytes_eq-Decides (drop n piece) (codes "\n")).0 p.0 i)
+    sym (take-append-drop n piece)
+    ∙ (λ i. sym p.1 i ++ (bytes_eq-Decides (drop n piece) (codes "\n")).0 p.0 i)
 
 -- no byte of these is c
 abbrev pub Lacks : ℕ → List ℕ → Type 0
@@ -60,16 +65,23 @@ index_within (x ∷ xs) ys zero lt = refl
 index_within (x ∷ xs) ys (suc k) lt = index_within xs ys k (omega arith)
 
 -- the lines of bytes that begin with a line
-pub first_line_off : (line rest : List ℕ) → Lacks 10 line → lines_of ((line ++ codes "\n") ++ rest) ≡ (line ++ codes "\n") ∷ lines_of rest
+pub first_line_off : (line rest : List ℕ) → Lacks 10 line → lines_of ((line ++ codes "\n") ++ rest)
+    ≡ (line ++ codes "\n") ∷ lines_of rest
 first_line_off line rest lacks =
     let bs = (line ++ codes "\n") ++ rest in
     let same : bs ≡ line ++ 10 ∷ rest = append_assoc line (codes "\n") rest in
-    let size : length bs ≡ length line + (1 + length rest) = omega (arith, length-append (line ++ codes "\n") rest, length-append line (codes "\n")) in
-    let at : slice_index bs (length line) ≡ 10 = ap (λ (xs : List ℕ). slice_index xs (length line)) same ∙ index_left line rest 10 in
+    let size : length bs ≡ length line + (1 + length rest) =
+    omega (arith, length-append (line ++ codes "\n") rest, length-append line (codes "\n")) in
+    let at : slice_index bs (length line) ≡ 10 = ap (λ (xs : List ℕ). slice_index xs (length line)) same
+    ∙ index_left line rest 10 in
     let other : (k : ℕ) → k < length line → slice_index bs k ≢ 10 =
-    λ k lt e. eqb-false (get_or line k 0) 10 (All-get_or (λ b. eqb b 10 ≡ false) line k 0 lt lacks) (sym (index_within line (10 ∷ rest) k lt) ∙ ap (λ (xs : List ℕ). slice_index xs k) (sym same) ∙ e) in
-    let long : line_len bs ≡ length (line ++ codes "\n") = line_len-at bs (length line) (omega (arith, size)) at other ∙ omega (arith, length-append line (codes "\n")) in
-    lines-step bs (omega (arith, size)) ∙ (λ i. take (long i) bs ∷ lines_of (drop (long i) bs)) ∙ (λ i. take_left (line ++ codes "\n") rest i ∷ lines_of (drop_left (line ++ codes "\n") rest i))
+    λ k lt e. eqb-false (get_or line k 0) 10 (All-get_or (λ b. eqb b 10 ≡ false) line k 0 lt lacks)
+    (sym (index_within line (10 ∷ rest) k lt) ∙ ap (λ (xs : List ℕ). slice_index xs k) (sym same) ∙ e) in
+    let long : line_len bs ≡ length (line ++ codes "\n") =
+    line_len-at bs (length line) (omega (arith, size)) at other
+    ∙ omega (arith, length-append line (codes "\n")) in
+    lines-step bs (omega (arith, size)) ∙ (λ i. take (long i) bs ∷ lines_of (drop (long i) bs))
+    ∙ (λ i. take_left (line ++ codes "\n") rest i ∷ lines_of (drop_left (line ++ codes "\n") rest i))
 
 -- digits and a minus are no separators
 digits_lack : (c : ℕ) → c < 48 → (ds : List ℕ) → AreDigits ds → AllByRecursion (λ b. eqb b c ≡ false) ds
@@ -80,9 +92,13 @@ digits_lack c low (d ∷ ds) h =
     (ne_eqb d c (λ e. omega (arith, from, e, low)), digits_lack c low ds p.1)
 
 number_lacks : (c : ℕ) → c < 45 → (z : ℤ) → IsSmall z → Lacks c (signed_decimal z)
-number_lacks c low (pos n) small = All-from_recursion (λ b. eqb b c ≡ false) (decimal n) (digits_lack c (omega arith) (decimal n) (digits_decimal own n (omega arith)))
+number_lacks c low (pos n) small =
+    All-from_recursion (λ b. eqb b c ≡ false) (decimal n)
+    (digits_lack c (omega arith) (decimal n) (digits_decimal own n (omega arith)))
 number_lacks c low (negsuc n) small =
-    All-cons (λ b. eqb b c ≡ false) 45 (decimal (suc n)) (ne_eqb 45 c (λ e. omega (arith, e, low))) (All-from_recursion (λ b. eqb b c ≡ false) (decimal (suc n)) (digits_lack c (omega arith) (decimal (suc n)) (digits_decimal own (suc n) (omega arith))))
+    All-cons (λ b. eqb b c ≡ false) 45 (decimal (suc n)) (ne_eqb 45 c (λ e. omega (arith, e, low)))
+    (All-from_recursion (λ b. eqb b c ≡ false) (decimal (suc n))
+    (digits_lack c (omega arith) (decimal (suc n)) (digits_decimal own (suc n) (omega arith))))
 
 abbrev pub AreSmall : List ℤ → Type 0
 AreSmall zs = AllByRecursion IsSmall zs
@@ -90,26 +106,36 @@ AreSmall zs = AllByRecursion IsSmall zs
 -- numbers after spaces have no line feed
 numbers_lack : (zs : List ℤ) → AreSmall zs → Lacks 10 (flat_map spaced zs)
 numbers_lack [] h = All-nil (λ b. eqb b 10 ≡ false)
-numbers_lack (z ∷ zs) h = All-append (λ b. eqb b 10 ≡ false) (spaced z) (flat_map spaced zs) (All-cons (λ b. eqb b 10 ≡ false) 32 (signed_decimal z) refl (number_lacks 10 (omega arith) z h.0)) (numbers_lack zs h.1)
+numbers_lack (z ∷ zs) h = All-append (λ b. eqb b 10 ≡ false) (spaced z) (flat_map spaced zs)
+    (All-cons (λ b. eqb b 10 ≡ false) 32 (signed_decimal z) refl (number_lacks 10 (omega arith) z h.0))
+    (numbers_lack zs h.1)
 
-pub line_lacks : (word : List ℕ) (zs : List ℤ) → Lacks 10 word → AreSmall zs → Lacks 10 (word ++ flat_map spaced zs)
+pub line_lacks : (word : List ℕ) (zs : List ℤ) → Lacks 10 word → AreSmall zs
+    → Lacks 10 (word ++ flat_map spaced zs)
 line_lacks word zs w h = All-append (λ b. eqb b 10 ≡ false) word (flat_map spaced zs) w (numbers_lack zs h)
 
 -- the words of a line of a word and numbers
-words_apart : (word : List ℕ) (zs : List ℤ) → Lacks 32 word → AreSmall zs → words_of (word ++ flat_map spaced zs) ≡ word ∷ map signed_decimal zs
+words_apart : (word : List ℕ) (zs : List ℤ) → Lacks 32 word → AreSmall zs
+    → words_of (word ++ flat_map spaced zs) ≡ word ∷ map signed_decimal zs
 words_apart word [] w h = ap words_of (append-nil word) ∙ slice_split_none (λ b. eqb b 32) word w
 words_apart word (z ∷ zs) w h =
-    slice_split_at (λ b. eqb b 32) word 32 (signed_decimal z ++ flat_map spaced zs) w refl ∙ ap (λ (ws : List (List ℕ)). word ∷ ws) (words_apart (signed_decimal z) zs (number_lacks 32 (omega arith) z h.0) h.1)
+    slice_split_at (λ b. eqb b 32) word 32 (signed_decimal z ++ flat_map spaced zs) w refl
+    ∙ ap (λ (ws : List (List ℕ)). word
+    ∷ ws) (words_apart (signed_decimal z) zs (number_lacks 32 (omega arith) z h.0) h.1)
 
-joined : (word : List ℕ) (zs : List ℤ) → join_with_byte 32 (word ∷ map signed_decimal zs) ≡ word ++ flat_map spaced zs
+joined : (word : List ℕ) (zs : List ℤ) → join_with_byte 32 (word ∷ map signed_decimal zs)
+    ≡ word ++ flat_map spaced zs
 joined word [] = sym (append-nil word)
 joined word (z ∷ zs) = ap (λ (bs : List ℕ). word ++ 32 ∷ bs) (joined (signed_decimal z) zs)
 
-words_joined : (line word : List ℕ) (zs : List ℤ) → words_of line ≡ word ∷ map signed_decimal zs → line ≡ word ++ flat_map spaced zs
-words_joined line word zs h = sym (join_with_byte-slice_split 32 line) ∙ ap (join_with_byte 32) h ∙ joined word zs
+words_joined : (line word : List ℕ) (zs : List ℤ) → words_of line ≡ word ∷ map signed_decimal zs
+    → line ≡ word ++ flat_map spaced zs
+words_joined line word zs h = sym (join_with_byte-slice_split 32 line) ∙ ap (join_with_byte 32) h
+    ∙ joined word zs
 
 -- words that write small numbers are these numbers in decimal
-spelled_numbers : (i : ℕ) (ws : List (List ℕ)) (zs : List ℤ) → entries_from (λ i. number_in) i ws ≡ Ok zs → AreSmall zs → ws ≡ map signed_decimal zs
+spelled_numbers : (i : ℕ) (ws : List (List ℕ)) (zs : List ℤ) → entries_from (λ i. number_in) i ws ≡ Ok zs
+    → AreSmall zs → ws ≡ map signed_decimal zs
 unfolding entries_from
 spelled_numbers i [] zs h small = ap (λ (ys : List ℤ). map signed_decimal ys) (same_ok [] zs _ refl h)
 spelled_numbers i (w ∷ ws) zs h small =
@@ -117,26 +143,35 @@ spelled_numbers i (w ∷ ws) zs h small =
     let b = both (entries_from (λ i. number_in) (i + 1) ws) _ zs a.2 in
     let more : a.0 ∷ b.0 ≡ zs = same_ok (a.0 ∷ b.0) zs _ refl b.2 in
     let near = subst AreSmall (sym more) small in
-    (λ j. spelled_number w a.0 (was_some (number w) BadLine a.0 a.1) near.0 j ∷ spelled_numbers (i + 1) ws b.0 b.1 near.1 j) ∙ ap (λ (ys : List ℤ). map signed_decimal ys) more
+    (λ j. spelled_number w a.0 (was_some (number w) BadLine a.0 a.1) near.0 j
+    ∷ spelled_numbers (i + 1) ws b.0 b.1 near.1 j) ∙ ap (λ (ys : List ℤ). map signed_decimal ys) more
 
 -- and small numbers in decimal write themselves
-numbers_spelled : (i : ℕ) (zs : List ℤ) → AreSmall zs → entries_from (λ i. number_in) i (map signed_decimal zs) ≡ Ok zs
+numbers_spelled : (i : ℕ) (zs : List ℤ) → AreSmall zs
+    → entries_from (λ i. number_in) i (map signed_decimal zs) ≡ Ok zs
 unfolding entries_from
 numbers_spelled i [] h = refl
 numbers_spelled i (z ∷ zs) h = rw (number_spelled z h.0, numbers_spelled (i + 1) zs h.1) refl
 
 -- a line of a word and small numbers has its one spelling
-pub line_spelled : (word line : List ℕ) (zs : List ℤ) → numbers_after word (words_of line) ≡ Ok zs → AreSmall zs → line ≡ word ++ flat_map spaced zs
+pub line_spelled : (word line : List ℕ) (zs : List ℤ) → numbers_after word (words_of line) ≡ Ok zs
+    → AreSmall zs → line ≡ word ++ flat_map spaced zs
 line_spelled word line zs h small = by_words (words_of line) refl h
   where
-    by_test : (w : List ℕ) (ws : List (List ℕ)) (b : Bool) → words_of line ≡ w ∷ ws → bytes_eq w word ≡ b → cond b (numbers_in ws) (Err BadLine) ≡ Ok zs → line ≡ word ++ flat_map spaced zs
-    by_test w ws true e t g = words_joined line word zs (e ∙ (λ i. (bytes_eq-Decides w word).0 t i ∷ spelled_numbers 0 ws zs g small i))
+    by_test : (w : List ℕ) (ws : List (List ℕ)) (b : Bool) → words_of line ≡ w ∷ ws → bytes_eq w word ≡ b
+        → cond b (numbers_in ws) (Err BadLine) ≡ Ok zs → line ≡ word ++ flat_map spaced zs
+    by_test w ws true e t g =
+        words_joined line word zs
+        (e ∙ (λ i. (bytes_eq-Decides w word).0 t i ∷ spelled_numbers 0 ws zs g small i))
     by_test w ws false e t g = cc
 
-    by_words : (ws : List (List ℕ)) → words_of line ≡ ws → numbers_after word ws ≡ Ok zs → line ≡ word ++ flat_map spaced zs
+    by_words : (ws : List (List ℕ)) → words_of line ≡ ws → numbers_after word ws ≡ Ok zs
+        → line ≡ word ++ flat_map spaced zs
     by_words [] e g = cc
     by_words (w ∷ ws) e g = by_test w ws (bytes_eq w word) e refl g
 
 -- and that spelling is such a line
-pub spelled_line : (word : List ℕ) (zs : List ℤ) → Lacks 32 word → AreSmall zs → numbers_after word (words_of (word ++ flat_map spaced zs)) ≡ Ok zs
-spelled_line word zs w h = rw (words_apart word zs w h, (bytes_eq-Decides word word).1 refl) (numbers_spelled 0 zs h)
+pub spelled_line : (word : List ℕ) (zs : List ℤ) → Lacks 32 word → AreSmall zs
+    → numbers_after word (words_of (word ++ flat_map spaced zs)) ≡ Ok zs
+spelled_line word zs w h = rw (words_apart word zs w h, (bytes_eq-Decides word word).1 refl)
+    (numbers_spelled 0 zs h)

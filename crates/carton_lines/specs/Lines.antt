@@ -1,10 +1,13 @@
 -- Lines and their words, and what is told of a line.
-use Rattle.std.specs.Prelude.{ℕ, ◌+◌, ◌-◌, ◌^◌, min, List, [], ◌∷◌, length, take, drop, nat_eq, bytes_eq, Bool, true, if◌then◌else◌, Option, Some, None, Result, Ok, Err}
+use Rattle.std.specs.Prelude.{ℕ, ◌+◌, ◌-◌, ◌^◌, min, List, [], ◌∷◌, length, take, drop, nat_eq, bytes_eq}
+use Rattle.std.specs.Prelude.{Bool, true, if◌then◌else◌, Option, Some, None, Result, Ok, Err}
 use Rattle.std.specs.List.{slice_split}
 use Rattle.carton_lines.specs.declared.fault.Fault.{Fault}
 use Rattle.carton_lines.specs.declared.fault.Fault.TheVariants.{BadLine, Range, Duplicate, Memory}
 use Rattle.carton_lines.specs.declared.fault.LineError.{LineError}
-use Rattle.carton_lines.specs.declared.fault.LineError.TheVariants.{BadLine as BadLineAt, Range as RangeAt, Duplicate as DuplicateAt, Memory as OutOfMemory}
+use Rattle.carton_lines.specs.declared.fault.LineError.TheVariants.{BadLine as BadLineAt, Range as RangeAt}
+use Rattle.carton_lines.specs.declared.fault.LineError.TheVariants.{Duplicate as DuplicateAt}
+use Rattle.carton_lines.specs.declared.fault.LineError.TheVariants.{Memory as OutOfMemory}
 use Rattle.carton_base.specs.Steps.{Gives as GivesBut}
 
 -- what a function returned, seen by view, is what the reading gives, want of memory apart

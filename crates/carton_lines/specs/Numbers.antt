@@ -1,5 +1,7 @@
 -- Numbers as a text writes them: decimal, of any number of digits.
-use Rattle.std.specs.Prelude.{ℕ, ℤ, pos, negsuc, neg_ℤ, unsigned_abs, List, [], ◌∷◌, nat_eq, nat_le, not, ◌&&◌, ◌||◌, bytes_eq, drop, Bool, false, if◌then◌else◌, Option, Some, None, ok_or, Result, Ok, Err, codes}
+use Rattle.std.specs.Prelude.{ℕ, ℤ, pos, negsuc, neg_ℤ, unsigned_abs, List, [], ◌∷◌, nat_eq, nat_le, not}
+use Rattle.std.specs.Prelude.{◌&&◌, ◌||◌, bytes_eq, drop, Bool, false, if◌then◌else◌, Option, Some, None}
+use Rattle.std.specs.Prelude.{ok_or, Result, Ok, Err, codes}
 use Rattle.std.specs.Char.{is_ascii_digit}
 use Rattle.std.specs.List.{list_all}
 use Rattle.std.specs.Str.Parse.{digits_value, starts_with_minus}
@@ -25,7 +27,8 @@ unfoldable pub number : List ℕ → Option ℤ
 number word =
     if bytes_eq word (codes "0") then Some (pos 0) else (
     if is_positive word then Some (pos (digits_value 10 word)) else (
-    if starts_with_minus word && is_positive (drop 1 word) then Some (neg_ℤ (pos (digits_value 10 (drop 1 word)))) else None))
+    if starts_with_minus word
+    && is_positive (drop 1 word) then Some (neg_ℤ (pos (digits_value 10 (drop 1 word)))) else None))
 
 -- the number where it lies from low to high
 abbrev pub from_to : ℕ → ℕ → ℤ → Result ℕ Fault

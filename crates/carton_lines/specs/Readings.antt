@@ -1,5 +1,6 @@
 -- Texts of lines by their grammars: a first line, lines after it, and the line `end`.
-use Rattle.std.specs.Prelude.{ℕ, List, [], ◌∷◌, bytes_eq, Bool, true, false, if◌then◌else◌, Option, Some, None, Result, Ok, Err, codes}
+use Rattle.std.specs.Prelude.{ℕ, List, [], ◌∷◌, bytes_eq, Bool, true, false, if◌then◌else◌, Option, Some}
+use Rattle.std.specs.Prelude.{None, Result, Ok, Err, codes}
 use Rattle.bstr.specs.Text.{lines_of}
 use Rattle.carton_base.specs.Steps.{◌>>=◌}
 use Rattle.carton_lines.specs.declared.fault.Fault.{Fault}

@@ -1,5 +1,6 @@
 -- Lines that end with a line feed alone, and have one spelling.
-use Rattle.std.specs.Prelude.{ℕ, ◌-◌, ◌++◌, ℤ, List, [], ◌∷◌, length, take, drop, flat_map, bytes_eq, if◌then◌else◌, Option, Some, None, Result, Err, codes}
+use Rattle.std.specs.Prelude.{ℕ, ◌-◌, ◌++◌, ℤ, List, [], ◌∷◌, length, take, drop, flat_map, bytes_eq}
+use Rattle.std.specs.Prelude.{if◌then◌else◌, Option, Some, None, Result, Err, codes}
 use Rattle.std.specs.Fmt.{signed_decimal}
 use Rattle.carton_lines.specs.declared.fault.Fault.{Fault}
 use Rattle.carton_lines.specs.declared.fault.Fault.TheVariants.{BadLine}
@@ -7,7 +8,9 @@ use Rattle.carton_lines.specs.Numbers.{numbers_in}
 
 -- what stands before the end of a line
 abbrev pub before : List ℕ → List ℕ → Option (List ℕ)
-before end line = if bytes_eq (drop (length line - length end) line) end then Some (take (length line - length end) line) else None
+before end line =
+    if bytes_eq (drop (length line - length end) line) end then Some (take (length line - length end) line)
+    else None
 
 -- a line without its line feed, if it has one
 abbrev pub whole : List ℕ → Option (List ℕ)

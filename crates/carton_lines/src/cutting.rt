@@ -1,5 +1,6 @@
 ghost use Rattle.std.specs.Prelude.{◌≡◌, map, Ok, option_map};
-ghost use Rattle.carton_lines.specs.Lines.{Gives, is_passed_over as is_passed_over_in, words_of, after as after_in};
+ghost use Rattle.carton_lines.specs.Lines.{Gives, is_passed_over as is_passed_over_in, words_of};
+ghost use Rattle.carton_lines.specs.Lines.{after as after_in};
 
 use crate::fault::Fault;
 use std::alloc::Global;

@@ -1,9 +1,11 @@
-ghost use Rattle.std.specs.Prelude.{◌≡◌, ◌+◌, ◌-◌, ◌*◌, ◌^◌, ◌<◌, ◌≤◌, min, length, map, pos, true, unsigned_abs, nat_lt, int_lt};
+ghost use Rattle.std.specs.Prelude.{◌≡◌, ◌+◌, ◌-◌, ◌*◌, ◌^◌, ◌<◌, ◌≤◌, min, length, map, pos, true};
+ghost use Rattle.std.specs.Prelude.{unsigned_abs, nat_lt, int_lt};
 ghost use Rattle.std.specs.Char.{is_ascii_digit};
 ghost use Rattle.std.specs.List.{list_all};
 ghost use Rattle.std.specs.Str.Parse.{digits_value};
 ghost use Rattle.carton_lines.specs.Lines.{Gives};
-ghost use Rattle.carton_lines.specs.Numbers.{is_positive as is_positive_in, is_natural, number, number_in, numbers_in, from_to as from_to_in, at_most as at_most_in};
+ghost use Rattle.carton_lines.specs.Numbers.{is_positive as is_positive_in, is_natural, number, number_in};
+ghost use Rattle.carton_lines.specs.Numbers.{numbers_in, from_to as from_to_in, at_most as at_most_in};
 
 use crate::fault::Fault;
 use std::alloc::Global;
@@ -23,7 +25,8 @@ impl<'a> Model for Numeral<'a> {
 
     ghost Value = { ℤ };
 
-    ghost view = { λ n. if n.negative then neg_ℤ (pos (digits_value 10 n.digits.now)) else pos (digits_value 10 n.digits.now) };
+    ghost view = { λ n. if n.negative then neg_ℤ (pos (digits_value 10 n.digits.now)) else pos
+        (digits_value 10 n.digits.now) };
 
     ghost invariant = { λ n. is_written n.negative n.digits.now ≡ true };
 }

@@ -2,7 +2,8 @@ ghost use Rattle.std.specs.Prelude.{◌≡◌, if◌then◌else◌};
 ghost use Rattle.bstr.specs.Text.{lines_of};
 ghost use Rattle.carton_lines.specs.declared.fault.LineError.TheVariants.{BadLine, NoEnd};
 ghost use Rattle.carton_lines.specs.Lines.{Gives, GivesLines};
-ghost use Rattle.carton_lines.specs.Readings.{next_line, step, has_ended as has_ended_in, read_lines, finished, freely_read, strictly_read};
+ghost use Rattle.carton_lines.specs.Readings.{next_line, step, has_ended as has_ended_in, read_lines};
+ghost use Rattle.carton_lines.specs.Readings.{finished, freely_read, strictly_read};
 ghost use Rattle.carton_lines.specs.Spellings.{HasOneSpelling};
 
 use crate::fault::{Fault, LineError};
@@ -87,7 +88,8 @@ impl<D: LineText> Reading<D> {
 }
 
 fn read_all<D: LineText>(alloc: Global, way: Way, bytes: &[u8]) -> Result<Reading<D>, LineError>
-    ensures { GivesLines (λ r. r) result (read_lines (step D.grammar way) Reading.Before 0 (lines_of bytes.now)) }
+    ensures { GivesLines (λ r. r) result
+        (read_lines (step D.grammar way) Reading.Before 0 (lines_of bytes.now)) }
 {
     let mut reading = Reading::Before;
     let mut number: u32 = 0;

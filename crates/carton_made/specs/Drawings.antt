@@ -1,5 +1,6 @@
 -- What the four keys of a made dieline hold.
-use Rattle.std.specs.Prelude.{ℕ, ◌+◌, ◌*◌, ℤ, pos, neg_ℤ, List, [], ◌∷◌, ◌++◌, map, nat_lt, ◌&&◌, if◌then◌else◌, codes}
+use Rattle.std.specs.Prelude.{ℕ, ◌+◌, ◌*◌, ℤ, pos, neg_ℤ, List, [], ◌∷◌, ◌++◌, map, nat_lt, ◌&&◌}
+use Rattle.std.specs.Prelude.{if◌then◌else◌, codes}
 use Rattle.std.specs.List.{range_with_len}
 use Rattle.std.specs.Ordering.{int_eq}
 use Rattle.carton_made.specs.declared.kinds.Kind.{Kind}
@@ -25,7 +26,8 @@ abbrev pub side_vertex : ℕ → ℕ → ℕ → List ℤ
 side_vertex s y i = at (i * s) y
 
 abbrev pub row_vertices : ℕ → ℕ → List (List ℤ)
-row_vertices n s = map (side_vertex s 0) (range_with_len 0 (n + 1)) ++ map (side_vertex s 100) (range_with_len 0 (n + 1))
+row_vertices n s =
+    map (side_vertex s 0) (range_with_len 0 (n + 1)) ++ map (side_vertex s 100) (range_with_len 0 (n + 1))
 
 unfoldable pub vertices : Kind → ℕ → List (List ℤ)
 vertices Tray s = map (map (resized s)) tray_vertices
@@ -48,7 +50,9 @@ abbrev pub across : ℕ → ℕ → List ℕ
 across n i = two i (n + 1 + i)
 
 abbrev pub row_edges : ℕ → List (List ℕ)
-row_edges n = map along (range_with_len 0 n) ++ (map along (range_with_len (n + 1) n) ++ map (across n) (range_with_len 0 (n + 1)))
+row_edges n =
+    map along (range_with_len 0 n)
+    ++ (map along (range_with_len (n + 1) n) ++ map (across n) (range_with_len 0 (n + 1)))
 
 unfoldable pub edges : Kind → List (List ℕ)
 edges Tray = tray_edges

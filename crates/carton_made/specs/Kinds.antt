@@ -34,7 +34,8 @@ creases Tray = range_with_len 0 4
 creases Strip = row_creases strip_panels
 creases Tube = row_creases tube_panels
 
--- the stop to which a crease of a strip is folded, up and down in turn: crease i is edge 2 * 9 + i, so both are even or none
+-- the stop to which a crease of a strip is folded, up and down in turn: crease i is edge 2 * 9 + i, so both
+-- are even or none
 abbrev pub strip_target : ℕ → ℤ
 strip_target edge = if nat_eq (edge % 2) 0 then neg_ℤ (pos 4) else pos 4
 

@@ -31,7 +31,8 @@ dieline_text k = dieline_of (kind_of k) (size_of k)
 
 -- the line of a crease's target
 abbrev pub target_line : Kind → ℕ → List ℕ
-target_line kind edge = codes "target " ++ (decimal edge ++ (codes " " ++ (signed_decimal (target kind edge) ++ codes "\n")))
+target_line kind edge =
+    codes "target " ++ (decimal edge ++ (codes " " ++ (signed_decimal (target kind edge) ++ codes "\n")))
 
 -- a crease in the line of the team
 abbrev pub member : ℕ → List ℕ

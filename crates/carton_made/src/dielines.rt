@@ -15,7 +15,9 @@ const TUBE_PANELS: u32 = 4;
 #[tactic(auto, unfolding(crate::specs::Drawings::vertices))]
 fn write_vertices(text: &mut String, kind: Kind, size: u32) -> Result<(), AllocError>
     requires { size ≤ 290 }
-    ensures { OnOk result (string_bytes text.new ≡ string_bytes text.old ++ listed (listed signed_decimal) (vertices kind size)) }
+    ensures { OnOk result
+        (string_bytes text.new ≡ string_bytes text.old
+        ++ listed (listed signed_decimal) (vertices kind size)) }
 {
     match kind {
         Kind::Tray => trays::write_vertices(text, size),
@@ -26,7 +28,8 @@ fn write_vertices(text: &mut String, kind: Kind, size: u32) -> Result<(), AllocE
 
 #[tactic(auto, unfolding(crate::specs::Drawings::edges))]
 fn write_edges(text: &mut String, kind: Kind) -> Result<(), AllocError>
-    ensures { OnOk result (string_bytes text.new ≡ string_bytes text.old ++ listed (listed decimal) (edges kind)) }
+    ensures { OnOk result
+        (string_bytes text.new ≡ string_bytes text.old ++ listed (listed decimal) (edges kind)) }
 {
     match kind {
         Kind::Tray => trays::write_edges(text),
@@ -48,7 +51,8 @@ fn write_letters(text: &mut String, kind: Kind) -> Result<(), AllocError>
 
 #[tactic(auto, unfolding(crate::specs::Drawings::faces))]
 fn write_faces(text: &mut String, kind: Kind) -> Result<(), AllocError>
-    ensures { OnOk result (string_bytes text.new ≡ string_bytes text.old ++ listed (listed decimal) (faces kind)) }
+    ensures { OnOk result
+        (string_bytes text.new ≡ string_bytes text.old ++ listed (listed decimal) (faces kind)) }
 {
     match kind {
         Kind::Tray => trays::write_faces(text),

@@ -32,7 +32,9 @@ fn target(kind: Kind, edge: u32) -> i8
 
 fn write_targets(text: &mut String, kind: Kind, first: u32, end: u32) -> Result<(), AllocError>
     requires { first ≤ end }
-    ensures { OnOk result (string_bytes text.new ≡ string_bytes text.old ++ flat_map (target_line kind) (range_with_len first (end - first))) }
+    ensures { OnOk result
+        (string_bytes text.new ≡ string_bytes text.old
+        ++ flat_map (target_line kind) (range_with_len first (end - first))) }
 {
     for edge in first..end {
         let target = target(kind, edge);
@@ -43,7 +45,9 @@ fn write_targets(text: &mut String, kind: Kind, first: u32, end: u32) -> Result<
 
 fn write_team(text: &mut String, first: u32, end: u32) -> Result<(), AllocError>
     requires { first ≤ end }
-    ensures { OnOk result (string_bytes text.new ≡ string_bytes text.old ++ flat_map member (range_with_len first (end - first))) }
+    ensures { OnOk result
+        (string_bytes text.new ≡ string_bytes text.old
+        ++ flat_map member (range_with_len first (end - first))) }
 {
     for edge in first..end {
         write!(text, " {edge}")?;

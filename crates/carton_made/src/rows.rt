@@ -1,7 +1,8 @@
 ghost use Rattle.std.specs.Prelude.{◌≡◌, ◌+◌, ◌-◌, ◌*◌, ◌<◌, ◌≤◌, ◌++◌, map, string_bytes, OnOk};
 ghost use Rattle.std.specs.List.{range_with_len};
 ghost use Rattle.std.specs.Fmt.{decimal, signed_decimal};
-ghost use Rattle.carton_made.specs.Drawings.{side_vertex, row_vertices, along, across, row_edges, row_letter, row_letters, row_face, row_faces};
+ghost use Rattle.carton_made.specs.Drawings.{side_vertex, row_vertices, along, across, row_edges};
+ghost use Rattle.carton_made.specs.Drawings.{row_letter, row_letters, row_face, row_faces};
 ghost use Rattle.carton_made.specs.Made.{listed, listed_texts, following};
 
 use std::alloc::AllocError;
@@ -17,7 +18,10 @@ fn write_side(
     requires first { first ≤ panels }
     requires panels { panels ≤ 9 }
     requires size { size ≤ 290 }
-    ensures { OnOk result (string_bytes text.new ≡ string_bytes text.old ++ following (listed signed_decimal) (map (side_vertex size height) (range_with_len first (panels + 1 - first)))) }
+    ensures { OnOk result
+        (string_bytes text.new ≡ string_bytes text.old
+        ++ following (listed signed_decimal) (map (side_vertex size height)
+        (range_with_len first (panels + 1 - first)))) }
 {
     for vertex in first..panels + 1 {
         let x = vertex * size;
@@ -30,7 +34,9 @@ pub fn write_vertices(text: &mut String, panels: u32, size: u32) -> Result<(), A
     requires some { 0 < panels }
     requires panels { panels ≤ 9 }
     requires size { size ≤ 290 }
-    ensures { OnOk result (string_bytes text.new ≡ string_bytes text.old ++ listed (listed signed_decimal) (row_vertices panels size)) }
+    ensures { OnOk result
+        (string_bytes text.new ≡ string_bytes text.old
+        ++ listed (listed signed_decimal) (row_vertices panels size)) }
 {
     text.push_str("[[0,0]")?;
     write_side(text, 1, panels, size, 0)?;
@@ -42,7 +48,9 @@ pub fn write_vertices(text: &mut String, panels: u32, size: u32) -> Result<(), A
 fn write_along(text: &mut String, first: u32, last: u32) -> Result<(), AllocError>
     requires first { first ≤ last }
     requires last { last ≤ 19 }
-    ensures { OnOk result (string_bytes text.new ≡ string_bytes text.old ++ following (listed decimal) (map along (range_with_len first (last - first)))) }
+    ensures { OnOk result
+        (string_bytes text.new ≡ string_bytes text.old
+        ++ following (listed decimal) (map along (range_with_len first (last - first)))) }
 {
     for vertex in first..last {
         let next = vertex + 1;
@@ -53,7 +61,9 @@ fn write_along(text: &mut String, first: u32, last: u32) -> Result<(), AllocErro
 
 fn write_across(text: &mut String, panels: u32) -> Result<(), AllocError>
     requires { panels ≤ 9 }
-    ensures { OnOk result (string_bytes text.new ≡ string_bytes text.old ++ following (listed decimal) (map (across panels) (range_with_len 0 (panels + 1)))) }
+    ensures { OnOk result
+        (string_bytes text.new ≡ string_bytes text.old
+        ++ following (listed decimal) (map (across panels) (range_with_len 0 (panels + 1)))) }
 {
     for vertex in 0..panels + 1 {
         let opposite = panels + 1 + vertex;
@@ -65,7 +75,8 @@ fn write_across(text: &mut String, panels: u32) -> Result<(), AllocError>
 pub fn write_edges(text: &mut String, panels: u32) -> Result<(), AllocError>
     requires some { 0 < panels }
     requires panels { panels ≤ 9 }
-    ensures { OnOk result (string_bytes text.new ≡ string_bytes text.old ++ listed (listed decimal) (row_edges panels)) }
+    ensures { OnOk result
+        (string_bytes text.new ≡ string_bytes text.old ++ listed (listed decimal) (row_edges panels)) }
 {
     text.push_str("[[0,1]")?;
     write_along(text, 1, panels)?;
@@ -88,7 +99,9 @@ fn letter(panels: u32, edge: u32) -> &'static str
 // Writes the letters of a row's edges, from the second on.
 fn write_more_letters(text: &mut String, panels: u32) -> Result<(), AllocError>
     requires { panels ≤ 9 }
-    ensures { OnOk result (string_bytes text.new ≡ string_bytes text.old ++ following (λ letter. letter) (map (row_letter panels) (range_with_len 1 (3 * panels)))) }
+    ensures { OnOk result
+        (string_bytes text.new ≡ string_bytes text.old
+        ++ following (λ letter. letter) (map (row_letter panels) (range_with_len 1 (3 * panels)))) }
 {
     for edge in 1..3 * panels + 1 {
         let letter = letter(panels, edge);
@@ -99,7 +112,8 @@ fn write_more_letters(text: &mut String, panels: u32) -> Result<(), AllocError>
 
 pub fn write_letters(text: &mut String, panels: u32) -> Result<(), AllocError>
     requires { panels ≤ 9 }
-    ensures { OnOk result (string_bytes text.new ≡ string_bytes text.old ++ listed_texts (row_letters panels)) }
+    ensures { OnOk result
+        (string_bytes text.new ≡ string_bytes text.old ++ listed_texts (row_letters panels)) }
 {
     text.push_str("[\"B\"")?;
     write_more_letters(text, panels)?;
@@ -110,7 +124,9 @@ pub fn write_letters(text: &mut String, panels: u32) -> Result<(), AllocError>
 fn write_more_faces(text: &mut String, panels: u32) -> Result<(), AllocError>
     requires some { 0 < panels }
     requires panels { panels ≤ 9 }
-    ensures { OnOk result (string_bytes text.new ≡ string_bytes text.old ++ following (listed decimal) (map (row_face panels) (range_with_len 1 (panels - 1)))) }
+    ensures { OnOk result
+        (string_bytes text.new ≡ string_bytes text.old
+        ++ following (listed decimal) (map (row_face panels) (range_with_len 1 (panels - 1)))) }
 {
     for panel in 1..panels {
         let next = panel + 1;
@@ -124,7 +140,8 @@ fn write_more_faces(text: &mut String, panels: u32) -> Result<(), AllocError>
 pub fn write_faces(text: &mut String, panels: u32) -> Result<(), AllocError>
     requires some { 0 < panels }
     requires panels { panels ≤ 9 }
-    ensures { OnOk result (string_bytes text.new ≡ string_bytes text.old ++ listed (listed decimal) (row_faces panels)) }
+    ensures { OnOk result
+        (string_bytes text.new ≡ string_bytes text.old ++ listed (listed decimal) (row_faces panels)) }
 {
     let opposite = panels + 1;
     let beyond = panels + 2;

@@ -20,7 +20,9 @@ fn resized(coordinate: u32, size: u32) -> u32
 
 pub fn write_vertices(text: &mut String, size: u32) -> Result<(), AllocError>
     requires { size ≤ 290 }
-    ensures { OnOk result (string_bytes text.new ≡ string_bytes text.old ++ listed (listed signed_decimal) (vertices Tray size)) }
+    ensures { OnOk result
+        (string_bytes text.new ≡ string_bytes text.old
+        ++ listed (listed signed_decimal) (vertices Tray size)) }
 {
     let side = resized(100, size);
     let far = resized(160, size);
@@ -32,7 +34,8 @@ pub fn write_vertices(text: &mut String, size: u32) -> Result<(), AllocError>
 }
 
 pub fn write_edges(text: &mut String) -> Result<(), AllocError>
-    ensures { OnOk result (string_bytes text.new ≡ string_bytes text.old ++ listed (listed decimal) (edges Tray)) }
+    ensures { OnOk result
+        (string_bytes text.new ≡ string_bytes text.old ++ listed (listed decimal) (edges Tray)) }
 {
     text.push_str(
         "[[0,1],[1,2],[2,3],[3,0],[0,4],[4,5],[5,1],[1,6],[6,7],[7,2],[2,8],[8,9],[9,3],[3,10],[10,11],[11,0]]",
@@ -48,7 +51,8 @@ pub fn write_letters(text: &mut String) -> Result<(), AllocError>
 }
 
 pub fn write_faces(text: &mut String) -> Result<(), AllocError>
-    ensures { OnOk result (string_bytes text.new ≡ string_bytes text.old ++ listed (listed decimal) (faces Tray)) }
+    ensures { OnOk result
+        (string_bytes text.new ≡ string_bytes text.old ++ listed (listed decimal) (faces Tray)) }
 {
     text.push_str("[[0,1,2,3],[4,5,1,0],[1,6,7,2],[3,2,8,9],[11,0,3,10]]")
 }

@@ -1,11 +1,13 @@
 -- A dieline that keeps the rules of its file.
-use Rattle.std.specs.Prelude.{◌≡◌, ◌⊎◌, ℕ, ◌<◌, ◌≤◌, List, length, All, Option, IfSome, pos, neg_ℤ, unsigned_abs}
+use Rattle.std.specs.Prelude.{◌≡◌, ◌⊎◌, ℕ, ◌<◌, ◌≤◌, List, length, All, Option, IfSome, pos, neg_ℤ}
+use Rattle.std.specs.Prelude.{unsigned_abs}
 use Rattle.carton_base.specs.declared.dieline.RawDieline.{RawDieline}
 use Rattle.carton_base.specs.declared.dieline.Point.{Point}
 use Rattle.carton_base.specs.declared.dieline.Ends.{Ends}
 use Rattle.carton_base.specs.declared.dieline.Face.{Face}
 use Rattle.carton_base.specs.declared.ids.Stop.{Stop}
-use Rattle.carton_base.specs.declared.limits.TheConstants.{MOST_VERTICES, MOST_EDGES, MOST_PANELS, LEAST_CORNERS, MOST_CORNERS, FARTHEST}
+use Rattle.carton_base.specs.declared.limits.TheConstants.{MOST_VERTICES, MOST_EDGES, MOST_PANELS}
+use Rattle.carton_base.specs.declared.limits.TheConstants.{LEAST_CORNERS, MOST_CORNERS, FARTHEST}
 
 -- the vertex lies no farther from the origin than any may, along both axes
 pub record IsNear (p : Point) : Type 0 where
@@ -26,7 +28,8 @@ pub record IsFace (vertices : ℕ) (f : Face) : Type 0 where
 
 -- an angle of a whole number of right angles: the stop is one of -16, -8, 0, 8 and 16
 abbrev pub IsRightAngled : Stop → Type 0
-IsRightAngled s = (s.0 ≡ neg_ℤ (pos 16)) ⊎ (s.0 ≡ neg_ℤ (pos 8)) ⊎ (s.0 ≡ pos 0) ⊎ (s.0 ≡ pos 8) ⊎ (s.0 ≡ pos 16)
+IsRightAngled s = (s.0 ≡ neg_ℤ (pos 16)) ⊎ (s.0 ≡ neg_ℤ (pos 8)) ⊎ (s.0 ≡ pos 0) ⊎ (s.0 ≡ pos 8)
+    ⊎ (s.0 ≡ pos 16)
 
 -- there is one entry for each edge, and each that has a stop is right-angled
 abbrev pub AreAngles : ℕ → List (Option Stop) → Type 0

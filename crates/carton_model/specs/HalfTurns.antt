@@ -1,6 +1,8 @@
--- Cosine and sine of a fold. A fold is a fraction n / d from -2 to 2: 0 is flat, 1 a right angle, 2 folded back onto the parent.
+-- Cosine and sine of a fold. A fold is a fraction n / d from -2 to 2: 0 is flat, 1 a right angle, 2 folded
+-- back onto the parent.
 -- A positive fold raises the child panel.
-use Rattle.std.specs.Prelude.{◌≡◌, ℕ, ◌*◌, ◌<◌, Bool, nat_le, if◌then◌else◌, ℤ, pos, negsuc, neg_ℤ, ◌+ℤ◌, ◌-ℤ◌, ◌*ℤ◌, unsigned_abs}
+use Rattle.std.specs.Prelude.{◌≡◌, ℕ, ◌*◌, ◌<◌, Bool, nat_le, if◌then◌else◌, ℤ, pos, negsuc, neg_ℤ, ◌+ℤ◌}
+use Rattle.std.specs.Prelude.{◌-ℤ◌, ◌*ℤ◌, unsigned_abs}
 use Rattle.carton_base.specs.Rounding.{IsBetween}
 
 -- the fold n / d is at most a right angle either way

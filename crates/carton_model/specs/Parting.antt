@@ -22,5 +22,7 @@ abbrev pub PartsBy : ℤ → ℤ → ℤ → ℤ → (Position → Type 0) → (
 PartsBy gap u v t first second = (p q : Position) → first p → second q → IsFarther gap u v t p q
 
 -- some direction parts the two sets by more than the gap, where a frame tells the positions of each
-abbrev pub PartedIn : {Frame : Type 0} → ℤ → (Frame → Position → Type 0) → (Frame → Position → Type 0) → Frame → Type 0
-PartedIn gap first second frame = (u v t : ℤ) × IsDirection u v t × PartsBy gap u v t (first frame) (second frame)
+abbrev pub PartedIn : {Frame : Type 0} → ℤ → (Frame → Position → Type 0) → (Frame → Position → Type 0) → Frame
+    → Type 0
+PartedIn gap first second frame = (u v t : ℤ) × IsDirection u v t
+    × PartsBy gap u v t (first frame) (second frame)

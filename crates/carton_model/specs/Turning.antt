@@ -1,6 +1,8 @@
--- Turns of positions about the joints of a carton, in exact homogeneous numbers: the rotation of a textbook, by the cosine and
+-- Turns of positions about the joints of a carton, in exact homogeneous numbers: the rotation of a textbook,
+-- by the cosine and
 -- the sine of the fold as fractions over one number.
-use Rattle.std.specs.Prelude.{◌≡◌, ℕ, zero, suc, ◌≤◌, ◌<◌, List, [], ◌∷◌, map, if◌then◌else◌, Option, None, Some, IfSome, ℤ, pos, negsuc, neg_ℤ, ◌+ℤ◌, ◌-ℤ◌, ◌*ℤ◌, unsigned_abs}
+use Rattle.std.specs.Prelude.{◌≡◌, ℕ, zero, suc, ◌≤◌, ◌<◌, List, [], ◌∷◌, map, if◌then◌else◌, Option, None}
+use Rattle.std.specs.Prelude.{Some, IfSome, ℤ, pos, negsuc, neg_ℤ, ◌+ℤ◌, ◌-ℤ◌, ◌*ℤ◌, unsigned_abs}
 use Rattle.carton_base.specs.declared.numbers.Triple.{Triple}
 use Rattle.carton_base.specs.declared.motion.Turn.{Turn}
 use Rattle.carton_base.specs.declared.limits.TheConstants.{FARTHEST, MOST_JOINTS}
@@ -20,7 +22,13 @@ sign_back (negsuc n) h = h
 
 -- the turn the other way, from the parent's side: the same joint with its sign changed
 abbrev pub turned_back : Turn → Turn
-turned_back t = record { place = t.place; upright = t.upright; at = t.at; sign = neg_ℤ t.sign; signed = sign_back t.sign t.signed }
+turned_back t = record {
+  place = t.place;
+  upright = t.upright;
+  at = t.at;
+  sign = neg_ℤ t.sign;
+  signed = sign_back t.sign t.signed;
+}
 
 -- the position of a flat point at height 0
 abbrev pub laid : Triple → Position
@@ -36,11 +44,13 @@ pub record Angle : Type 0 where
 abbrev pub angle_of : Fold → Angle
 angle_of f = record { cos = cosine f.num f.den; sin = sine f.num f.den; over = square_sum f.num f.den }
 
--- the angle as a joint of this sign turns: 1 raises what lies at the greater coordinate, -1 what lies at the smaller
+-- the angle as a joint of this sign turns: 1 raises what lies at the greater coordinate, -1 what lies at the
+-- smaller
 abbrev pub with_side : ℤ → Angle → Angle
 with_side sign a = record { cos = a.cos; sin = sign *ℤ a.sin; over = a.over }
 
--- the position after a turn about the upright line x = at: the part that lies off the line turns with the height
+-- the position after a turn about the upright line x = at: the part that lies off the line turns with the
+-- height
 unfoldable pub turned_about : ℤ → Angle → Position → Position
 turned_about at a p = let off = p.x -ℤ at *ℤ p.w in record {
   x = (at *ℤ p.w) *ℤ pos a.over +ℤ (a.cos *ℤ off -ℤ a.sin *ℤ p.z);
@@ -55,7 +65,8 @@ exchanged p = record { x = p.y; y = p.x; z = p.z; w = p.w }
 
 -- the position after the turn by an angle: about x = at where the joint is upright, else about y = at
 unfoldable pub turned_by : Turn → Angle → Position → Position
-turned_by t a p = if t.upright then turned_about t.at (with_side t.sign a) p else exchanged (turned_about t.at (with_side t.sign a) (exchanged p))
+turned_by t a p = if t.upright then turned_about t.at (with_side t.sign a) p else exchanged
+    (turned_about t.at (with_side t.sign a) (exchanged p))
 
 -- the position after turns by angles, the first one first
 unfoldable pub turned_through : List Turn → List Angle → Position → Position

@@ -1,5 +1,6 @@
 -- The least of fractions whose numerators aren't negative, and small facts on products.
-use Rattle.std.proofs.Common.{◌≡◌, suc, ℤ, pos, negsuc, ◌*ℤ◌, ◌≤ℤ◌, ◌<ℤ◌, ◌⊎◌, inl, inr, arith, refl, List, [], ◌∷◌, All, Contains}
+use Rattle.std.proofs.Common.{◌≡◌, suc, ℤ, pos, negsuc, ◌*ℤ◌, ◌≤ℤ◌, ◌<ℤ◌, ◌⊎◌, inl, inr, arith, refl, List}
+use Rattle.std.proofs.Common.{[], ◌∷◌, All, Contains}
 use Rattle.std.specs.Prelude.{slice_index_or}
 use Rattle.std.proofs.lemmas.Int.{ints, by_lt_z}
 use Rattle.std.proofs.lemmas.List.Elements.{All-nil, All-cons, All-tail, All-head, All-contains}
@@ -13,7 +14,8 @@ pub Contains-first : {X : Type 0} (x : X) (xs : List X) → Contains (x ∷ xs) 
 Contains-first x xs = (0, omega arith, refl)
 
 -- what holds of each by two facts
-pub All-both : {X : Type 0} (P Q R : X → Type 0) (f : (x : X) → P x → Q x → R x) (xs : List X) → All P xs → All Q xs → All R xs
+pub All-both : {X : Type 0} (P Q R : X → Type 0) (f : (x : X) → P x → Q x → R x) (xs : List X) → All P xs
+    → All Q xs → All R xs
 All-both P Q R f xs p q = λ k d i. f (slice_index_or xs k d) (p k d i) (q k d i)
 
 -- a positive factor on both sides can be taken away
@@ -39,12 +41,17 @@ at_most a b h = omega (arith, ints, h)
 
 -- where a doesn't rise, its ratio isn't looked at
 behind : (n s m t : ℤ) → n ≤ℤ pos 0 → pos 0 ≤ℤ s → pos 0 <ℤ m → pos 0 ≤ℤ t → (n *ℤ s) ≤ℤ (m *ℤ t)
-behind n s m t a b c d = omega (arith, ints, mul_le_right n (pos 0) s a b, product_not_negative m t (at_most (pos 0) m c) d)
+behind n s m t a b c d =
+    omega (arith, ints, mul_le_right n (pos 0) s a b, product_not_negative m t (at_most (pos 0) m c) d)
 
 -- the ratio t/m is at most s/n, and r/l is at most t/m: then r/l is at most s/n
-overtakes : (n s m t l r : ℤ) → pos 0 ≤ℤ s → pos 0 ≤ℤ r → pos 0 <ℤ m → pos 0 <ℤ l → (n *ℤ t) ≤ℤ (m *ℤ s) → (m *ℤ r) ≤ℤ (l *ℤ t) → (n *ℤ r) ≤ℤ (l *ℤ s)
+overtakes : (n s m t l r : ℤ) → pos 0 ≤ℤ s → pos 0 ≤ℤ r → pos 0 <ℤ m → pos 0 <ℤ l → (n *ℤ t) ≤ℤ (m *ℤ s)
+    → (m *ℤ r) ≤ℤ (l *ℤ t) → (n *ℤ r) ≤ℤ (l *ℤ s)
 overtakes n s m t l r hs hr hm hl a b = by_lt_z (pos 0) n
-    (λ up. cancel m (n *ℤ r) (l *ℤ s) hm (chain (m *ℤ (n *ℤ r)) (n *ℤ (m *ℤ r)) (n *ℤ (l *ℤ t)) (l *ℤ (n *ℤ t)) (l *ℤ (m *ℤ s)) (m *ℤ (l *ℤ s)) (swapped m n r) (mul_le_left n (m *ℤ r) (l *ℤ t) (at_most (pos 0) n up) b) (swapped n l t) (mul_le_left l (n *ℤ t) (m *ℤ s) (at_most (pos 0) l hl) a) (swapped l m s)))
+    (λ up. cancel m (n *ℤ r) (l *ℤ s) hm
+    (chain (m *ℤ (n *ℤ r)) (n *ℤ (m *ℤ r)) (n *ℤ (l *ℤ t)) (l *ℤ (n *ℤ t)) (l *ℤ (m *ℤ s)) (m *ℤ (l *ℤ s))
+    (swapped m n r) (mul_le_left n (m *ℤ r) (l *ℤ t) (at_most (pos 0) n up) b) (swapped n l t)
+    (mul_le_left l (n *ℤ t) (m *ℤ s) (at_most (pos 0) l hl) a) (swapped l m s)))
     (λ down. behind n r l s down hr hl hs)
   where
     swapped : (a b c : ℤ) → a *ℤ (b *ℤ c) ≡ b *ℤ (a *ℤ c)
@@ -60,20 +67,51 @@ pub record Least {S : Type 0} (num den : S → ℤ) (ss : List S) : Type 0 where
   pub rises : pos 0 <ℤ den least
   pub first : All (λ s. (den s *ℤ num least) ≤ℤ (den least *ℤ num s)) ss
 
-pub least_ratio : {S : Type 0} (num den : S → ℤ) (ss : List S) → All (λ s. pos 0 ≤ℤ num s) ss → All (λ s. den s ≤ℤ pos 0) ss ⊎ Least num den ss
+pub least_ratio : {S : Type 0} (num den : S → ℤ) (ss : List S) → All (λ s. pos 0 ≤ℤ num s) ss
+    → All (λ s. den s ≤ℤ pos 0) ss ⊎ Least num den ss
 least_ratio {S} num den [] h = inl (All-nil _)
 least_ratio {S} num den (s ∷ ss) h =
     let hs : pos 0 ≤ℤ num s = All-head (λ j. pos 0 ≤ℤ num j) s ss h in
     let rest : All (λ j. pos 0 ≤ℤ num j) ss = All-tail (λ j. pos 0 ≤ℤ num j) s ss h in
     elim (least_ratio num den ss rest) [
       | inl none ↦ by_lt_z (pos 0) (den s)
-          (λ up. inr record { least = s; at = Contains-first s ss; rises = up; first = All-cons (λ j. (den j *ℤ num s) ≤ℤ (den s *ℤ num j)) s ss (itself (den s *ℤ num s)) (All-both (λ j. den j ≤ℤ pos 0) (λ j. pos 0 ≤ℤ num j) (λ j. (den j *ℤ num s) ≤ℤ (den s *ℤ num j)) (λ j n hj. behind (den j) (num s) (den s) (num j) n hs up hj) ss none rest) })
+          (λ up. inr record {
+            least = s;
+            at = Contains-first s ss;
+            rises = up;
+            first = All-cons (λ j. (den j *ℤ num s) ≤ℤ (den s *ℤ num j)) s ss (itself (den s *ℤ num s))
+                (All-both (λ j. den j ≤ℤ pos 0) (λ j. pos 0 ≤ℤ num j)
+                (λ j. (den j *ℤ num s) ≤ℤ (den s *ℤ num j))
+                (λ j n hj. behind (den j) (num s) (den s) (num j) n hs up hj) ss none rest);
+          })
           (λ down. inl (All-cons (λ j. den j ≤ℤ pos 0) s ss down none))
       | inr l ↦ by_lt_z (den s *ℤ num l.least) (den l.least *ℤ num s)
-          (λ less. inr record { least = l.least; at = Contains-next s l.least ss l.at; rises = l.rises; first = All-cons (λ j. (den j *ℤ num l.least) ≤ℤ (den l.least *ℤ num j)) s ss (at_most _ _ less) l.first })
+          (λ less. inr record {
+            least = l.least;
+            at = Contains-next s l.least ss l.at;
+            rises = l.rises;
+            first = All-cons (λ j. (den j *ℤ num l.least) ≤ℤ (den l.least *ℤ num j)) s ss (at_most _ _ less)
+                l.first;
+          })
           (λ more. by_lt_z (pos 0) (den s)
-          (λ up. inr record { least = s; at = Contains-first s ss; rises = up; first = All-cons (λ j. (den j *ℤ num s) ≤ℤ (den s *ℤ num j)) s ss (itself (den s *ℤ num s)) (All-both (λ j. (den j *ℤ num l.least) ≤ℤ (den l.least *ℤ num j)) (λ j. pos 0 ≤ℤ num j) (λ j. (den j *ℤ num s) ≤ℤ (den s *ℤ num j)) (λ j e hj. overtakes (den j) (num j) (den l.least) (num l.least) (den s) (num s) hj hs l.rises up e more) ss l.first rest) })
-          (λ down. inr record { least = l.least; at = Contains-next s l.least ss l.at; rises = l.rises; first = All-cons (λ j. (den j *ℤ num l.least) ≤ℤ (den l.least *ℤ num j)) s ss (behind (den s) (num l.least) (den l.least) (num s) down (All-contains (λ j. pos 0 ≤ℤ num j) ss l.least rest l.at) l.rises hs) l.first }))
+          (λ up. inr record {
+            least = s;
+            at = Contains-first s ss;
+            rises = up;
+            first = All-cons (λ j. (den j *ℤ num s) ≤ℤ (den s *ℤ num j)) s ss (itself (den s *ℤ num s))
+                (All-both (λ j. (den j *ℤ num l.least) ≤ℤ (den l.least *ℤ num j)) (λ j. pos 0 ≤ℤ num j)
+                (λ j. (den j *ℤ num s) ≤ℤ (den s *ℤ num j))
+                (λ j e hj. overtakes (den j) (num j) (den l.least) (num l.least) (den s) (num s) hj hs l.rises
+                up e more) ss l.first rest);
+          })
+          (λ down. inr record {
+            least = l.least;
+            at = Contains-next s l.least ss l.at;
+            rises = l.rises;
+            first = All-cons (λ j. (den j *ℤ num l.least) ≤ℤ (den l.least *ℤ num j)) s ss
+                (behind (den s) (num l.least) (den l.least) (num s) down
+                (All-contains (λ j. pos 0 ≤ℤ num j) ss l.least rest l.at) l.rises hs) l.first;
+          }))
     ]
   where
     itself : (a : ℤ) → a ≤ℤ a

@@ -3,7 +3,8 @@ use Rattle.std.specs.Prelude.{◌≡◌, ◌⊎◌, ⊤, ℕ, ◌<◌, List, len
 use Rattle.carton_base.specs.declared.dieline.RawDieline.{RawDieline}
 use Rattle.carton_base.specs.declared.dieline.Ends.{Ends}
 use Rattle.carton_base.specs.declared.dieline.Letter.{Letter}
-use Rattle.carton_base.specs.declared.dieline.Letter.TheVariants.{Boundary, Mountain, Valley, Flat, Unassigned, Cut}
+use Rattle.carton_base.specs.declared.dieline.Letter.TheVariants.{Boundary, Mountain, Valley, Flat}
+use Rattle.carton_base.specs.declared.dieline.Letter.TheVariants.{Unassigned, Cut}
 use Rattle.carton_base.specs.declared.ids.EdgeId.{EdgeId}
 use Rattle.carton_panels.specs.Around.{around}
 
@@ -28,7 +29,8 @@ pub record IsFirstEdge (edges : List Ends) (k p q : ℕ) : Type 0 where
 
 -- edge k is a side of the face with these vertices: of two edges with the same ends only the first is
 abbrev pub IsSideOf : List Ends → List ℕ → ℕ → Type 0
-IsSideOf edges vertices k = (p q : ℕ) × Contains (around vertices) (record { from = p; to = q }) × IsFirstEdge edges k p q
+IsSideOf edges vertices k = (p q : ℕ) × Contains (around vertices) (record { from = p; to = q })
+    × IsFirstEdge edges k p q
 
 -- edge k joins two faces with these vertices: it is a side of both, and its letter lets it join
 pub record IsCommonCrease (d : RawDieline) (first second : List ℕ) (k : ℕ) : Type 0 where
@@ -38,5 +40,6 @@ pub record IsCommonCrease (d : RawDieline) (first second : List ℕ) (k : ℕ) :
 
 -- the first crease that two faces share, or none where they share none
 abbrev pub IsCommonCreaseAnswer : RawDieline → List ℕ → List ℕ → Option EdgeId → Type 0
-IsCommonCreaseAnswer d first second (Some e) = IsCommonCrease d first second e.0 × ((k : ℕ) → k < e.0 → ¬ (IsCommonCrease d first second k))
+IsCommonCreaseAnswer d first second (Some e) = IsCommonCrease d first second e.0
+    × ((k : ℕ) → k < e.0 → ¬ (IsCommonCrease d first second k))
 IsCommonCreaseAnswer d first second None = (k : ℕ) → ¬ (IsCommonCrease d first second k)

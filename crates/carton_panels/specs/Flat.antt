@@ -10,6 +10,7 @@ pub record IsFlat (m : ℕ) (ps : List Point) (p : Position) : Type 0 where
   pub level : p.z ≡ pos 0
   pub inside : InShrunk m ps p.x p.y p.w
 
--- some direction parts two shrunk panels by more than 0 in the flat dieline, where all panels lie in one frame
+-- some direction parts two shrunk panels by more than 0 in the flat dieline, where all panels lie in one
+-- frame
 abbrev pub IsFlatParted : ℕ → List Point → ℕ → List Point → Type 0
 IsFlatParted m ps n qs = PartedIn (pos 0) (λ (f : Unit {0}). IsFlat m ps) (λ (f : Unit {0}). IsFlat n qs) tt

@@ -11,7 +11,8 @@ abbrev pub line_b : Side → ℤ
 line_b s = s.from.x -ℤ s.to.x
 
 abbrev pub line_e : ℕ → Side → ℤ
-line_e m s = s.from.x *ℤ (s.to.y -ℤ s.from.y) -ℤ s.from.y *ℤ (s.to.x -ℤ s.from.x) -ℤ pos m *ℤ (pos (unsigned_abs (s.to.x -ℤ s.from.x)) +ℤ pos (unsigned_abs (s.to.y -ℤ s.from.y)))
+line_e m s = s.from.x *ℤ (s.to.y -ℤ s.from.y) -ℤ s.from.y *ℤ (s.to.x -ℤ s.from.x)
+    -ℤ pos m *ℤ (pos (unsigned_abs (s.to.x -ℤ s.from.x)) +ℤ pos (unsigned_abs (s.to.y -ℤ s.from.y)))
 
 -- a*x + b*y = e*w is the inset line of the side
 pub record IsInsetLine (m : ℕ) (s : Side) (a b e : ℤ) : Type 0 where
@@ -21,7 +22,9 @@ pub record IsInsetLine (m : ℕ) (s : Side) (a b e : ℤ) : Type 0 where
 
 -- how far the flat point (x/w, y/w) lies within the side's inset line: leftness less the margin's part
 abbrev pub inset : ℕ → Side → ℤ → ℤ → ℤ → ℤ
-inset m s x y w = leftness s x y w -ℤ (pos m *ℤ (pos (unsigned_abs (s.to.x -ℤ s.from.x)) +ℤ pos (unsigned_abs (s.to.y -ℤ s.from.y)))) *ℤ w
+inset m s x y w =
+    leftness s x y w
+    -ℤ (pos m *ℤ (pos (unsigned_abs (s.to.x -ℤ s.from.x)) +ℤ pos (unsigned_abs (s.to.y -ℤ s.from.y)))) *ℤ w
 
 -- the flat point keeps the inset inequality of each side
 abbrev pub KeepsAll : ℕ → List Point → ℤ → ℤ → ℤ → Type 0

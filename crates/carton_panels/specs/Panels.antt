@@ -1,5 +1,6 @@
 -- Faces as panels: sides, what lies left of them, and which faces are convex.
-use Rattle.std.specs.Prelude.{◌≡◌, ◌≢◌, ℕ, ◌<◌, List, [], length, map, All, AllPairs, Any, Bool, not, filter, slice_index_or, ℤ, pos, ◌-ℤ◌, ◌*ℤ◌, ◌≤ℤ◌, ◌<ℤ◌}
+use Rattle.std.specs.Prelude.{◌≡◌, ◌≢◌, ℕ, ◌<◌, List, [], length, map, All, AllPairs, Any, Bool, not, filter}
+use Rattle.std.specs.Prelude.{slice_index_or, ℤ, pos, ◌-ℤ◌, ◌*ℤ◌, ◌≤ℤ◌, ◌<ℤ◌}
 use Rattle.std.specs.Ordering.{int_eq}
 use Rattle.carton_base.specs.declared.dieline.RawDieline.{RawDieline}
 use Rattle.carton_base.specs.declared.dieline.Point.{Point}
@@ -27,7 +28,8 @@ sides_of ps = around ps
 
 -- how far the flat point (x/w, y/w) lies left of the side: positive on its left, 0 on its line
 abbrev pub leftness : Side → ℤ → ℤ → ℤ → ℤ
-leftness s x y w = (s.to.x -ℤ s.from.x) *ℤ (y -ℤ s.from.y *ℤ w) -ℤ (s.to.y -ℤ s.from.y) *ℤ (x -ℤ s.from.x *ℤ w)
+leftness s x y w =
+    (s.to.x -ℤ s.from.x) *ℤ (y -ℤ s.from.y *ℤ w) -ℤ (s.to.y -ℤ s.from.y) *ℤ (x -ℤ s.from.x *ℤ w)
 
 -- the flat point is left of the side or on its line
 abbrev pub IsLeft : Side → ℤ → ℤ → ℤ → Type 0
@@ -46,11 +48,14 @@ IsDistinct ps = AllPairs (λ p q. p ≢ q) ps
 
 -- two vertices stand in one place
 abbrev pub IsRepeating : List Point → Type 0
-IsRepeating ps = (i j : ℕ) × (i < j) × (j < length ps) × (slice_index_or ps i origin ≡ slice_index_or ps j origin)
+IsRepeating ps = (i j : ℕ) × (i < j) × (j < length ps)
+    × (slice_index_or ps i origin ≡ slice_index_or ps j origin)
 
 -- no vertex lies right of a side, and each side has a vertex strictly left of it
 abbrev pub IsConvex : List Point → Type 0
-IsConvex ps = All (λ s. All (λ p. IsLeft s p.x p.y (pos 1)) ps × Any (λ p. IsStrictlyLeft s p.x p.y (pos 1)) ps) (sides_of ps)
+IsConvex ps =
+    All (λ s. All (λ p. IsLeft s p.x p.y (pos 1)) ps × Any (λ p. IsStrictlyLeft s p.x p.y (pos 1)) ps)
+    (sides_of ps)
 
 -- what meets at the vertices of a face, in their order: from the side before the vertex to the side after it
 abbrev pub bends_of : List Point → List (Step Side)

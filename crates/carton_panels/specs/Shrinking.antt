@@ -6,7 +6,8 @@ use Rattle.carton_panels.specs.Panels.{sides_of, InPanel, IsStrictlyLeft}
 
 -- the four flat points that lie the margin away from (x/w, y/w) along both axes all have P
 abbrev pub AtOffsets : ℕ → (ℤ → ℤ → ℤ → Type 0) → ℤ → ℤ → ℤ → Type 0
-AtOffsets m P x y w = let d = pos m *ℤ w in P (x +ℤ d) (y +ℤ d) w × P (x +ℤ d) (y -ℤ d) w × P (x -ℤ d) (y +ℤ d) w × P (x -ℤ d) (y -ℤ d) w
+AtOffsets m P x y w = let d = pos m *ℤ w in P (x +ℤ d) (y +ℤ d) w × P (x +ℤ d) (y -ℤ d) w
+    × P (x -ℤ d) (y +ℤ d) w × P (x -ℤ d) (y -ℤ d) w
 
 -- the flat point (x/w, y/w) lies in the shrunk panel
 abbrev pub InShrunk : ℕ → List Point → ℤ → ℤ → ℤ → Type 0

@@ -23,30 +23,26 @@ pub fn is_repeating(places: &[Point]) -> bool
     false
 }
 
-// Whether no vertex lies right of the side from the vertex at k to the next.
-fn has_none_right(face: Inset<'_>, k: usize) -> bool
+// Whether no vertex lies right of the side from the vertex at k to the next, and some vertex lies
+// strictly left of it.
+fn has_all_left(face: Inset<'_>, k: usize) -> bool
     requires { k < length face.places.now }
-    ensures { IsTrue result ↔ ((d : Side) → All (λ p. IsLeft (slice_index_or (sides_of face.entry.places.now) k d) p.x p.y (pos 1)) face.entry.places.now) }
+    ensures { IsTrue result
+        ↔ ((d : Side)
+        → All (λ p. IsLeft (slice_index_or (sides_of face.entry.places.now) k d) p.x p.y (pos 1))
+        face.entry.places.now
+        × Any (λ p. IsStrictlyLeft (slice_index_or (sides_of face.entry.places.now) k d) p.x p.y (pos 1))
+        face.entry.places.now) }
 {
+    let mut some = false;
     for p in face.places {
-        if face.leftness(k, *p) < 0 {
+        let gap = face.leftness(k, *p);
+        if gap < 0 {
             return false;
         }
+        some = some | (gap > 0);
     }
-    true
-}
-
-// Whether some vertex lies strictly left of that side.
-fn has_some_left(face: Inset<'_>, k: usize) -> bool
-    requires { k < length face.places.now }
-    ensures { IsTrue result ↔ ((d : Side) → Any (λ p. IsStrictlyLeft (slice_index_or (sides_of face.entry.places.now) k d) p.x p.y (pos 1)) face.entry.places.now) }
-{
-    for p in face.places {
-        if face.leftness(k, *p) > 0 {
-            return true;
-        }
-    }
-    false
+    some
 }
 
 // Whether the face is convex.
@@ -54,7 +50,7 @@ pub fn is_convex(face: Inset<'_>) -> bool
     ensures { IsTrue result ↔ IsConvex face.entry.places.now }
 {
     for k in 0..face.places.len() {
-        if !has_none_right(face, k) || !has_some_left(face, k) {
+        if !has_all_left(face, k) {
             return false;
         }
     }

@@ -1,6 +1,5 @@
 ghost use Rattle.std.specs.Prelude.{◌≡◌, ◌<◌, ◌≤◌, length, map, All, IfOk, IfErr, pos, slice_index_or};
 ghost use Rattle.carton_base.specs.declared.limits.TheConstants.{LEAST_CORNERS, MOST_CORNERS};
-ghost use Rattle.carton_base.specs.declared.numbers.Triple.{Triple};
 ghost use Rattle.carton_model.specs.Dielines.{IsDieline, IsNear};
 ghost use Rattle.carton_panels.specs.Around.{Step};
 ghost use Rattle.carton_panels.specs.Panels.{Side, places_of, face_at, corners_of, bends_of, is_straight};

@@ -1,5 +1,4 @@
 ghost use Rattle.std.specs.Prelude.{◌≡◌, ◌<◌, ℕ, length, IsTrue, ◌↔◌, Any, slice_get};
-ghost use Rattle.carton_base.specs.declared.dieline.Ends.{Ends};
 ghost use Rattle.carton_base.specs.declared.dieline.Letter.{Letter};
 ghost use Rattle.carton_model.specs.Dielines.{IsDieline};
 ghost use Rattle.carton_panels.specs.Around.{around};
@@ -101,7 +100,8 @@ pub fn common_crease(raw: &RawDieline, a: PanelId, b: PanelId) -> Option<EdgeId>
     requires dieline { IsDieline raw.now }
     requires a { a.0 < length raw.now.faces }
     requires b { b.0 < length raw.now.faces }
-    ensures { IsCommonCreaseAnswer raw.now (face_at raw.now a.0).corners (face_at raw.now b.0).corners result }
+    ensures { IsCommonCreaseAnswer raw.now (face_at raw.now a.0).corners (face_at raw.now b.0).corners
+        result }
 {
     let first = vertices_of(raw, a);
     let second = vertices_of(raw, b);

@@ -1,10 +1,13 @@
-ghost use Rattle.std.specs.Prelude.{◌≡◌, ℕ, ◌<◌, ◌≤◌, ◌^◌, length, All, Any, Contains, IsTrue, ◌↔◌, IfOk, OnOk, IfErr, slice_index_or, ℤ, pos, neg_ℤ, ◌-ℤ◌, ◌*ℤ◌, ◌<ℤ◌, unsigned_abs};
+ghost use Rattle.std.specs.Prelude.{◌≡◌, ℕ, ◌<◌, ◌≤◌, ◌^◌, length, All, Any, Contains, IsTrue, ◌↔◌, IfOk};
+ghost use Rattle.std.specs.Prelude.{OnOk, IfErr, slice_index_or, ℤ, pos, neg_ℤ, ◌-ℤ◌, ◌*ℤ◌, ◌<ℤ◌};
+ghost use Rattle.std.specs.Prelude.{unsigned_abs};
 ghost use Rattle.carton_base.specs.declared.numbers.Triple.{Triple};
 ghost use Rattle.carton_panels.specs.Panels.{Side, sides_of};
 ghost use Rattle.carton_panels.specs.Shrinking.{IsSamePoint};
 ghost use Rattle.carton_model.specs.Points.{IsSmall};
 ghost use Rattle.carton_panels.specs.Insets.{KeepsAll, inset};
-ghost use Rattle.carton_panels.specs.Crossings.{CoversPair, CoversRow, HasParts, IsCovered, IsCrossing, IsInsetCorner, IsGathered, IsPointOf};
+ghost use Rattle.carton_panels.specs.Crossings.{CoversPair, CoversRow, HasParts, IsCovered, IsCrossing};
+ghost use Rattle.carton_panels.specs.Crossings.{IsInsetCorner, IsGathered, IsPointOf};
 
 use crate::around::next_in_round;
 use crate::error::PanelError;
@@ -60,7 +63,9 @@ fn point(x: i128, y: i128, w: i128) -> Option<Triple>
 fn crossing_at(face: Inset<'_>, i: usize, j: usize) -> Option<Triple>
     requires i { i < length face.places.now }
     requires j { j < length face.places.now }
-    ensures { (d : Side) → IsCrossing face.entry.margin (slice_index_or (sides_of face.entry.places.now) i d) (slice_index_or (sides_of face.entry.places.now) j d) result }
+    ensures { (d : Side)
+        → IsCrossing face.entry.margin (slice_index_or (sides_of face.entry.places.now) i d) (slice_index_or
+        (sides_of face.entry.places.now) j d) result }
 {
     let first = face.line(i);
     let second = face.line(j);
@@ -112,7 +117,8 @@ fn add(found: &mut Vec<Triple>, face: Inset<'_>, t: Triple) -> Result<(), PanelE
     requires gathered { IsGathered face.margin face.places.now found.old.items }
     ensures gathered { OnOk result (IsGathered face.entry.margin face.entry.places.now found.new.items) }
     ensures grows { OnOk result ((k : Triple) → Contains found.old.items k → Contains found.new.items k) }
-    ensures covers { OnOk result (KeepsAll face.entry.margin face.entry.places.now t.x t.y t.w → IsCovered found.new.items t.x t.y t.w) }
+    ensures covers { OnOk result (KeepsAll face.entry.margin face.entry.places.now t.x t.y t.w
+        → IsCovered found.new.items t.x t.y t.w) }
     ensures err { IfErr result (λ e. e ≡ PanelError.Memory) }
 {
     if face.keeps_all(t) && !is_found(found, t) {
@@ -128,7 +134,10 @@ fn add_pair(found: &mut Vec<Triple>, face: Inset<'_>, i: usize, j: usize) -> Res
     requires gathered { IsGathered face.margin face.places.now found.old.items }
     ensures gathered { OnOk result (IsGathered face.entry.margin face.entry.places.now found.new.items) }
     ensures grows { OnOk result ((k : Triple) → Contains found.old.items k → Contains found.new.items k) }
-    ensures covers { OnOk result ((d : Side) → CoversPair face.entry.margin face.entry.places.now found.new.items (slice_index_or (sides_of face.entry.places.now) i d) (slice_index_or (sides_of face.entry.places.now) j d)) }
+    ensures covers { OnOk result
+        ((d : Side)
+        → CoversPair face.entry.margin face.entry.places.now found.new.items (slice_index_or
+        (sides_of face.entry.places.now) i d) (slice_index_or (sides_of face.entry.places.now) j d)) }
     ensures err { IfErr result (λ e. e ≡ PanelError.Memory) }
 {
     let Some(t) = crossing_at(face, i, j) else {
@@ -147,7 +156,8 @@ fn add_crossings(found: &mut Vec<Triple>, face: Inset<'_>, i: usize) -> Result<(
     requires gathered { IsGathered face.margin face.places.now found.old.items }
     ensures gathered { OnOk result (IsGathered face.entry.margin face.entry.places.now found.new.items) }
     ensures grows { OnOk result ((k : Triple) → Contains found.old.items k → Contains found.new.items k) }
-    ensures covers { OnOk result (CoversRow face.entry.margin face.entry.places.now found.new.items i (length face.entry.places.now)) }
+    ensures covers { OnOk result (CoversRow face.entry.margin face.entry.places.now found.new.items i
+        (length face.entry.places.now)) }
     ensures err { IfErr result (λ e. e ≡ PanelError.Memory) }
 {
     for j in i + 1..face.places.len() {
@@ -160,7 +170,8 @@ fn add_crossings(found: &mut Vec<Triple>, face: Inset<'_>, i: usize) -> Result<(
 // sides cross, if that point keeps the inequalities of all sides.
 pub fn inset_corners(alloc: Global, face: Inset<'_>) -> Result<Vec<Triple>, PanelError>
     ensures gathered { IfOk result (λ v. IsGathered face.entry.margin face.entry.places.now v.items) }
-    ensures covers { IfOk result (λ v. (i : ℕ) → i < length face.entry.places.now → CoversRow face.entry.margin face.entry.places.now v.items i (length face.entry.places.now)) }
+    ensures covers { IfOk result (λ v. (i : ℕ) → i < length face.entry.places.now
+        → CoversRow face.entry.margin face.entry.places.now v.items i (length face.entry.places.now)) }
     ensures err { IfErr result (λ e. e ≡ PanelError.Memory) }
 {
     let mut found = Vec::new(alloc);

@@ -34,7 +34,9 @@ impl<'a> Inset<'a> {
     /// The half plane on the left of the side from the vertex at k to the next, moved inwards.
     pub fn line(self, k: usize) -> Line
         requires { k < length self.places.now }
-        ensures { (d : Side) → IsInsetLine self.entry.margin (slice_index_or (sides_of self.entry.places.now) k d) result.a result.b result.e }
+        ensures { (d : Side)
+            → IsInsetLine self.entry.margin (slice_index_or (sides_of self.entry.places.now) k d) result.a
+            result.b result.e }
     {
         let next = self.places[next_in_round(k, self.places.len())];
         Line::inset(self.places[k], next, self.margin)
@@ -44,7 +46,9 @@ impl<'a> Inset<'a> {
     pub fn gap(self, k: usize, t: Triple) -> i128
         requires k { k < length self.places.now }
         requires t { IsSmall t }
-        ensures { (d : Side) → result ≡ inset self.entry.margin (slice_index_or (sides_of self.entry.places.now) k d) t.x t.y t.w }
+        ensures { (d : Side)
+            → result ≡ inset self.entry.margin (slice_index_or (sides_of self.entry.places.now) k d) t.x t.y
+            t.w }
     {
         self.line(k).gap(t)
     }
@@ -53,7 +57,9 @@ impl<'a> Inset<'a> {
     pub fn leftness(self, k: usize, place: Point) -> i128
         requires k { k < length self.places.now }
         requires place { IsNear place }
-        ensures { (d : Side) → result ≡ leftness (slice_index_or (sides_of self.entry.places.now) k d) place.x place.y (pos 1) }
+        ensures { (d : Side)
+            → result ≡ leftness (slice_index_or (sides_of self.entry.places.now) k d) place.x place.y (pos
+            1) }
     {
         self.bare().gap(k, vertex(place))
     }

@@ -47,8 +47,7 @@ pub struct Line {
     pub a: i128,
     pub b: i128,
     pub e: i128,
-    pub ghost a_small: { unsigned_abs a ≤ 2 ^ 14 },
-    pub ghost b_small: { unsigned_abs b ≤ 2 ^ 14 },
+    pub ghost slope_small: { (unsigned_abs a ≤ 2 ^ 14) × (unsigned_abs b ≤ 2 ^ 14) },
     pub ghost e_small: { unsigned_abs e ≤ 2 ^ 30 },
 }
 

@@ -19,7 +19,8 @@ struct Heading {
 
 // The part of a direction that lies in the plane.
 fn in_plane(direction: &[i8; 3]) -> Heading
-    requires { IsDirection (slice_index_or direction.now 0 (pos 0)) (slice_index_or direction.now 1 (pos 0)) (slice_index_or direction.now 2 (pos 0)) }
+    requires { IsDirection (slice_index_or direction.now 0 (pos 0)) (slice_index_or direction.now 1 (pos 0))
+        (slice_index_or direction.now 2 (pos 0)) }
     ensures u { result.u ≡ slice_index_or direction.now 0 (pos 0) }
     ensures v { result.v ≡ slice_index_or direction.now 1 (pos 0) }
 {
@@ -69,7 +70,8 @@ fn are_farther(h: Heading, p: Triple, second: &[Triple]) -> bool
 fn parts(h: Heading, first: &[Triple], second: &[Triple]) -> bool
     requires first { All IsSmall first.now }
     requires second { All IsSmall second.now }
-    ensures { IsTrue result ↔ All (λ p. All (λ q. IsFarther (pos 0) h.u h.v (pos 0) (laid p) (laid q)) second.now) first.now }
+    ensures { IsTrue result
+        ↔ All (λ p. All (λ q. IsFarther (pos 0) h.u h.v (pos 0) (laid p) (laid q)) second.now) first.now }
 {
     for p in first {
         if !are_farther(h, *p, second) {

@@ -31,9 +31,20 @@ impl Model for PanelShape {
 
     ghost Value = { Shape };
 
-    ghost view = { λ p. record { places = p.places.items; margin = p.margin; corners = p.corners.items; shrunk = p.shrunk.items } };
+    ghost view = { λ p. record {
+      places = p.places.items;
+      margin = p.margin;
+      corners = p.corners.items;
+      shrunk = p.shrunk.items;
+    } };
 
-    ghost invariant = { λ p. IsShape (record { places = p.places.items; margin = p.margin; corners = p.corners.items; shrunk = p.shrunk.items }) };
+    ghost invariant = { λ p.
+        IsShape (record {
+          places = p.places.items;
+          margin = p.margin;
+          corners = p.corners.items;
+          shrunk = p.shrunk.items;
+        }) };
 }
 
 impl PanelShape {

@@ -23,13 +23,32 @@ pub record AreAlike (p q : Position) : Type 0 where
   pub w : k *ℤ p.w ≡ l *ℤ q.w
 
 pub alike_self : (p : Position) → AreAlike p p
-alike_self p = record { k = pos 1; l = pos 1; some_k = omega (arith, ints); some_l = omega (arith, ints); x = refl; y = refl; z = refl; w = refl }
+alike_self p = record {
+  k = pos 1;
+  l = pos 1;
+  some_k = omega (arith, ints);
+  some_l = omega (arith, ints);
+  x = refl;
+  y = refl;
+  z = refl;
+  w = refl;
+}
 
 pub alike_back : (p q : Position) → AreAlike p q → AreAlike q p
-alike_back p q h = record { k = h.l; l = h.k; some_k = h.some_l; some_l = h.some_k; x = sym h.x; y = sym h.y; z = sym h.z; w = sym h.w }
+alike_back p q h = record {
+  k = h.l;
+  l = h.k;
+  some_k = h.some_l;
+  some_l = h.some_k;
+  x = sym h.x;
+  y = sym h.y;
+  z = sym h.z;
+  w = sym h.w;
+}
 
 times_on : (k l k' l' p q r : ℤ) → k *ℤ p ≡ l *ℤ q → k' *ℤ q ≡ l' *ℤ r → (k' *ℤ k) *ℤ p ≡ (l *ℤ l') *ℤ r
-times_on k l k' l' p q r h j = mul_assoc_ℤ k' k p ∙ ap (λ z. k' *ℤ z) h ∙ mul_left_comm k' l q ∙ ap (λ z. l *ℤ z) j ∙ sym (mul_assoc_ℤ l l' r)
+times_on k l k' l' p q r h j = mul_assoc_ℤ k' k p ∙ ap (λ z. k' *ℤ z) h ∙ mul_left_comm k' l q
+    ∙ ap (λ z. l *ℤ z) j ∙ sym (mul_assoc_ℤ l l' r)
 
 pub alike_on : (p q r : Position) → AreAlike p q → AreAlike q r → AreAlike p r
 alike_on p q r h j = record {
@@ -50,9 +69,16 @@ from_sum : (k l p q : ℤ) → IsSum k l (pos 0) (pos 0) p q q q → k *ℤ p �
 from_sum k l p q h = omega (arith, ints, h)
 
 -- turns keep two positions at one place
-pub alike_placed : (folds : ℕ → Fold) (ts : List Turn) (p q : Position) → AreAlike p q → AreAlike (placed folds ts p) (placed folds ts q)
+pub alike_placed : (folds : ℕ → Fold) (ts : List Turn) (p q : Position) → AreAlike p q
+    → AreAlike (placed folds ts p) (placed folds ts q)
 alike_placed folds ts p q h =
-    let s = sum_placed folds ts h.k h.l (pos 0) (pos 0) p q q q (record { x = as_sum h.k h.l p.x q.x h.x; y = as_sum h.k h.l p.y q.y h.y; z = as_sum h.k h.l p.z q.z h.z; w = as_sum h.k h.l p.w q.w h.w }) in
+    let s = sum_placed folds ts h.k h.l (pos 0) (pos 0) p q q q
+    (record {
+      x = as_sum h.k h.l p.x q.x h.x;
+      y = as_sum h.k h.l p.y q.y h.y;
+      z = as_sum h.k h.l p.z q.z h.z;
+      w = as_sum h.k h.l p.w q.w h.w;
+    }) in
     record {
       k = h.k;
       l = h.l;
@@ -85,7 +111,9 @@ crossed k l a b v w h j =
     simp laid_out (omega (arith, sums, x, y))
 
 along_alike : (u v t : ℤ) (p q : Position) (h : AreAlike p q) → h.k *ℤ along u v t p ≡ h.l *ℤ along u v t q
-along_alike u v t p q h = from_sum h.k h.l _ _ (sum_mixed u v t h.k h.l (pos 0) (pos 0) p.x p.y p.z q.x q.y q.z q.x q.y q.z q.x q.y q.z (as_sum h.k h.l p.x q.x h.x) (as_sum h.k h.l p.y q.y h.y) (as_sum h.k h.l p.z q.z h.z))
+along_alike u v t p q h =
+    from_sum h.k h.l _ _ (sum_mixed u v t h.k h.l (pos 0) (pos 0) p.x p.y p.z q.x q.y q.z q.x q.y q.z q.x q.y
+    q.z (as_sum h.k h.l p.x q.x h.x) (as_sum h.k h.l p.y q.y h.y) (as_sum h.k h.l p.z q.z h.z))
 
 pub not_beyond : (u v t : ℤ) (p q : Position) → AreAlike p q → ¬ (IsBeyond (pos 0) u v t p q)
 not_beyond u v t p q h far =

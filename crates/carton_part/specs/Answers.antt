@@ -10,7 +10,7 @@ use Rattle.carton_part.specs.declared.over.Parting.{Parting}
 use Rattle.carton_part.specs.declared.over.Parting.TheVariants.{Parted, Undecided}
 use Rattle.carton_part.specs.declared.judging.Verdict.{Verdict}
 use Rattle.carton_part.specs.declared.judging.Verdict.TheVariants.{Clear, Blocked}
-use Rattle.carton_part.specs.Parted.{ArePartedBy, AreAllParted, AreStrangers, AtEachMoment}
+use Rattle.carton_part.specs.Parted.{ArePartedBy, ArePartedIn, AreAllParted, AreStrangers, AtEachMoment}
 
 -- the moment is one of a move, its den is a power of two up to 2^36, and P holds there
 pub record IsHalvedMoment (m : Moment) (P : ℕ → ℕ → Type 0) : Type 0 where
@@ -22,13 +22,27 @@ pub record IsHalvedMoment (m : Moment) (P : ℕ → ℕ → Type 0) : Type 0 whe
   pub moment : IsMoment n (2 ^ depth)
   pub there : P n (2 ^ depth)
 
+-- at the moment n / d of the move a and b are parted by more than the gap
+abbrev pub ArePartedAt : Tree → Motion → ℕ → ℕ → ℤ → ℕ → ℕ → Type 0
+ArePartedAt t motion a b gap n d = ArePartedBy t (fold_at motion n d) a b (pos 2 *ℤ gap)
+
+-- at the moment n / d of the move they aren't parted by more than the gap and half the slack
+abbrev pub AreUnpartedAt : Tree → Motion → ℕ → ℕ → ℤ → ℕ → ℕ → ℕ → Type 0
+AreUnpartedAt t motion a b gap slack n d =
+    ¬ (ArePartedBy t (fold_at motion n d) a b (pos 2 *ℤ gap +ℤ pos slack))
+
+-- so it is in the frame of panel f
+abbrev pub AreUnpartedIn : Tree → Motion → ℕ → ℕ → ℤ → ℕ → ℕ → ℕ → ℕ → Type 0
+AreUnpartedIn t motion a b gap slack f n d =
+    ¬ (ArePartedIn t (fold_at motion n d) a b (pos 2 *ℤ gap +ℤ pos slack) f)
+
 -- at every moment of the move a and b are parted by more than the gap
 abbrev pub StayParted : Tree → Motion → ℕ → ℕ → ℤ → Type 0
-StayParted t motion a b gap = AtEachMoment (λ n d. ArePartedBy t (fold_at motion n d) a b (pos 2 *ℤ gap))
+StayParted t motion a b gap = AtEachMoment (ArePartedAt t motion a b gap)
 
 -- at this moment of the move a and b aren't parted by more than the gap and half the slack
 abbrev pub AreUnparted : Tree → Motion → ℕ → ℕ → ℤ → ℕ → Moment → Type 0
-AreUnparted t motion a b gap slack m = IsHalvedMoment m (λ n d. ¬ (ArePartedBy t (fold_at motion n d) a b (pos 2 *ℤ gap +ℤ pos slack)))
+AreUnparted t motion a b gap slack m = IsHalvedMoment m (AreUnpartedAt t motion a b gap slack)
 
 -- at every moment of the move all panels that share no crease are parted by more than the gap
 abbrev pub StayAllParted : Tree → Motion → ℤ → Type 0

@@ -1,5 +1,7 @@
--- Pairs of panels that are still to be judged: the table has a row for each panel, and in it a place for each.
-use Rattle.std.specs.Prelude.{◌≡◌, ℕ, ◌<◌, List, [], length, get_or, Bool, false, IsTrue, Option, Some, IfSome, pos, ◌*ℤ◌}
+-- Pairs of panels that are still to be judged: the table has a row for each panel, and in it a place for
+-- each.
+use Rattle.std.specs.Prelude.{◌≡◌, ℕ, ◌<◌, List, [], length, get_or, Bool, false, IsTrue, Option, Some}
+use Rattle.std.specs.Prelude.{IfSome, pos, ◌*ℤ◌}
 use Rattle.carton_base.specs.declared.limits.TheConstants.{MOST_PANELS}
 use Rattle.carton_base.specs.declared.motion.Motion.{Motion}
 use Rattle.carton_base.specs.declared.motion.State.{State}
@@ -15,7 +17,8 @@ use Rattle.carton_part.specs.Parted.{AreStrangers}
 abbrev pub is_open : List Bool → ℕ → Bool
 is_open row b = get_or row b false
 
--- the open places in the row of panel a are panels that share no crease with it, and each such panel that isn't open stays parted from a
+-- the open places in the row of panel a are panels that share no crease with it, and each such panel that
+-- isn't open stays parted from a
 pub record IsRowOf (t : Tree) (motion : Motion) (a : ℕ) (row : List Bool) : Type 0 where
   pub count : length row ≡ MOST_PANELS
   pub open_are : (b : ℕ) → IsTrue (is_open row b) → AreStrangers t a b
@@ -36,21 +39,26 @@ StayPartedBetween t low high a b = ForMoves low high (λ motion. StayParted t mo
 
 -- in every move between the two states the row `now` tells as much as the row `before`
 abbrev pub TellsAsMuch : Tree → State → State → ℕ → List Bool → List Bool → Type 0
-TellsAsMuch t low high a before now = ForMoves low high (λ motion. IsRowOf t motion a before → IsRowOf t motion a now)
+TellsAsMuch t low high a before now =
+    ForMoves low high (λ motion. IsRowOf t motion a before → IsRowOf t motion a now)
 
 -- the same of tables
 abbrev pub TellAsMuch : Tree → State → State → List (List Bool) → List (List Bool) → Type 0
-TellAsMuch t low high before now = ForMoves low high (λ motion. AreRowsOf t motion before → AreRowsOf t motion now)
+TellAsMuch t low high before now =
+    ForMoves low high (λ motion. AreRowsOf t motion before → AreRowsOf t motion now)
 
 -- the table has a row for each panel, and each row a place for each
 pub record IsTable (rows : List (List Bool)) : Type 0 where
   pub count : length rows ≡ MOST_PANELS
   pub each : (a : ℕ) → a < MOST_PANELS → length (get_or rows a []) ≡ MOST_PANELS
 
--- in every move between the two states each reach that is known is that of its place's panel, in the frame that it tells
+-- in every move between the two states each reach that is known is that of its place's panel, in the frame
+-- that it tells
 pub record AreKnown (t : Tree) (low high : State) (known : List (Option Placed)) : Type 0 where
   pub count : length known ≡ MOST_PANELS
-  pub each : (p : ℕ) (d : Option Placed) → p < MOST_PANELS → IfSome (get_or known p d) (λ e. ForMoves low high (λ motion. IsReachIn t motion p e.frame.0 0 0 e.reaches))
+  pub each : (p : ℕ) (d : Option Placed) → p < MOST_PANELS
+      → IfSome (get_or known p d) (λ e.
+      ForMoves low high (λ motion. IsReachIn t motion p e.frame.0 0 0 e.reaches))
 
 -- both reaches are known in the frame of panel f, and they are apart
 pub record AreApartIn (f : ℕ) (p q : Placed) : Type 0 where

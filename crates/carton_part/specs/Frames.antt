@@ -7,7 +7,8 @@ use Rattle.carton_tree.specs.Trees.{Tree, path, parting, turns_between}
 abbrev pub IsOnPath : Tree → ℕ → ℕ → Type 0
 IsOnPath t p f = Contains (path t.joints p) (record { 0 = f })
 
--- panel f is on the way in the tree from a to b, both included: on the path of one of them, and not above their parting panel
+-- panel f is on the way in the tree from a to b, both included: on the path of one of them, and not above
+-- their parting panel
 pub record IsOnWay (t : Tree) (a b f : ℕ) : Type 0 where
   pub above : IsOnPath t a f ⊎ IsOnPath t b f
   pub below : IsOnPath t f (parting t a b)

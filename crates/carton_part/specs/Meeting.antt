@@ -23,4 +23,5 @@ pub record AreMeeting (t : Tree) (folds : ℕ → Fold) (a b : ℕ) : Type 0 whe
 
 -- panels of a carton that are parted don't meet, however its joints are folded
 abbrev pub PartedDoNotMeet : Type 0
-PartedDoNotMeet = (t : Tree) (folds : ℕ → Fold) (a b : ℕ) → IsCarton t → HaveDens folds → a < length t.panels → b < length t.panels → ArePartedBy t folds a b (pos 0) → ¬ (AreMeeting t folds a b)
+PartedDoNotMeet = (t : Tree) (folds : ℕ → Fold) (a b : ℕ) → IsCarton t → HaveDens folds → a < length t.panels
+    → b < length t.panels → ArePartedBy t folds a b (pos 0) → ¬ (AreMeeting t folds a b)

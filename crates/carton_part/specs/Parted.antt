@@ -1,4 +1,5 @@
--- When two panels of a carton are parted, and when all are that share no crease. Lengths are counted in halves of a unit, so that half a slack is a whole number.
+-- When two panels of a carton are parted, and when all are that share no crease. Lengths are counted in
+-- halves of a unit, so that half a slack is a whole number.
 use Rattle.std.specs.Prelude.{ℕ, ◌<◌, length, ℤ}
 use Rattle.carton_base.specs.Directions.{IsDirection}
 use Rattle.carton_base.specs.Moments.{IsMoment}
@@ -9,9 +10,11 @@ use Rattle.carton_reach.specs.Beyond.{IsBeyond}
 use Rattle.carton_part.specs.Frames.{IsFrame}
 use Rattle.carton_part.specs.Points.{IsPointOf}
 
--- in the frame of panel f some direction parts all points of the shrunk panels a and b by more than so many halves
+-- in the frame of panel f some direction parts all points of the shrunk panels a and b by more than so many
+-- halves
 abbrev pub ArePartedIn : Tree → (ℕ → Fold) → ℕ → ℕ → ℤ → ℕ → Type 0
-ArePartedIn t folds a b halves f = (u v s : ℤ) × IsDirection u v s × ((p q : Position) → IsPointOf t folds a f p → IsPointOf t folds b f q → IsBeyond halves u v s p q)
+ArePartedIn t folds a b halves f = (u v s : ℤ) × IsDirection u v s
+    × ((p q : Position) → IsPointOf t folds a f p → IsPointOf t folds b f q → IsBeyond halves u v s p q)
 
 -- panels a and b are parted by more than so many halves: in a frame between them
 abbrev pub ArePartedBy : Tree → (ℕ → Fold) → ℕ → ℕ → ℤ → Type 0

@@ -11,7 +11,8 @@ use Rattle.carton_reach.specs.Spots.{shape_at}
 abbrev pub flat_at : ℤ → ℤ → ℤ → Position
 flat_at x y w = record { x = x; y = y; z = pos 0; w = w }
 
--- where the free joints stand at these folds, a point of the shrunk panel p has this position in the frame of panel f
+-- where the free joints stand at these folds, a point of the shrunk panel p has this position in the frame of
+-- panel f
 pub record IsPointOf (t : Tree) (folds : ℕ → Fold) (p f : ℕ) (q : Position) : Type 0 where
   pub x : ℤ
   pub y : ℤ

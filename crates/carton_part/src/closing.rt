@@ -2,12 +2,12 @@ ghost use Rattle.std.specs.Prelude.{◌≡◌, ℕ, ◌<◌, ◌≤◌, length, 
 ghost use Rattle.carton_base.specs.declared.limits.TheConstants.{MOST_PANELS};
 ghost use Rattle.carton_base.specs.declared.motion.Motion.{Motion};
 ghost use Rattle.carton_reach.specs.Ranges.{IsRange};
-ghost use Rattle.carton_part.specs.Closing.{AreKnown, AreKnownApart, AreRowsOf, ForMoves, IsTable, StayPartedBetween, TellAsMuch, TellsAsMuch, is_open};
+ghost use Rattle.carton_part.specs.Closing.{AreKnown, AreKnownApart, AreRowsOf, ForMoves, IsTable};
+ghost use Rattle.carton_part.specs.Closing.{StayPartedBetween, TellAsMuch, TellsAsMuch, is_open};
 ghost use Rattle.carton_part.specs.Looks.{IsReachIn};
 ghost use Rattle.carton_part.specs.Parted.{AreStrangers};
 
-use crate::frames::is_on_way;
-use crate::looking::reaches_between;
+use crate::frames::{is_on_way, reaches_between};
 use carton_base::{MOST_PANELS, PanelId, State};
 use carton_enclose::Enclose;
 use carton_reach::{Reaches, are_apart};
@@ -24,7 +24,7 @@ pub struct Placed {
 }
 
 /// How far panels reach, each in the frame in which it was placed last.
-pub type Known = [Option<Placed>; MOST_PANELS];
+pub type Placements = [Option<Placed>; MOST_PANELS];
 
 // Whether a < b, and the two share no crease.
 fn are_strangers(carton: &Carton, a: PanelId, b: PanelId) -> bool
@@ -124,7 +124,8 @@ fn placed_in<E: Enclose>(
     requires frame { frame.0 < length carton.now.panels }
     requires p { p.0 < length carton.now.panels }
     requires range { IsRange low.now high.now }
-    ensures { IfSome result (λ e. ForMoves low.now high.now (λ motion. IsReachIn carton.now motion p.0 e.frame.0 0 0 e.reaches)) }
+    ensures { IfSome result
+        (λ e. ForMoves low.now high.now (λ motion. IsReachIn carton.now motion p.0 e.frame.0 0 0 e.reaches)) }
 {
     let reaches = reaches_between::<E>(carton, low, high, p, frame)?;
     Some(Placed { frame, reaches })
@@ -137,7 +138,7 @@ fn know<E: Enclose>(
     high: &State,
     frame: PanelId,
     p: PanelId,
-    known: &mut Known,
+    known: &mut Placements,
 )
     requires few { length carton.now.panels ≤ MOST_PANELS }
     requires frame { frame.0 < length carton.now.panels }
@@ -171,7 +172,7 @@ fn are_parted<E: Enclose>(
     frame: PanelId,
     a: PanelId,
     b: PanelId,
-    known: &mut Known,
+    known: &mut Placements,
 ) -> bool
     requires few { length carton.now.panels ≤ MOST_PANELS }
     requires frame { frame.0 < length carton.now.panels }
@@ -199,7 +200,7 @@ fn closed_row<E: Enclose>(
     frame: PanelId,
     a: PanelId,
     row: Row,
-    known: &mut Known,
+    known: &mut Placements,
 ) -> Row
     requires frame { frame.0 < length carton.now.panels }
     requires a { a.0 < length carton.now.panels }
@@ -226,7 +227,7 @@ fn close_in<E: Enclose>(
     high: &State,
     frame: PanelId,
     rows: &mut [Row; MOST_PANELS],
-    known: &mut Known,
+    known: &mut Placements,
 )
     requires frame { frame.0 < length carton.now.panels }
     requires range { IsRange low.now high.now }
@@ -236,31 +237,12 @@ fn close_in<E: Enclose>(
     ensures rows { TellAsMuch carton.now low.now high.now rows.old rows.new }
     ensures known { AreKnown carton.now low.now high.now known.new }
 {
+    if !serves(carton, frame, rows) {
+        return;
+    }
     for a in 0..carton.panels() {
         let row = rows[a as usize];
         rows[a as usize] = closed_row::<E>(carton, low, high, frame, PanelId(a), row, known);
-    }
-}
-
-// The same, where the frame serves a pair that is open.
-fn close_served<E: Enclose>(
-    carton: &Carton,
-    low: &State,
-    high: &State,
-    frame: PanelId,
-    rows: &mut [Row; MOST_PANELS],
-    known: &mut Known,
-)
-    requires frame { frame.0 < length carton.now.panels }
-    requires range { IsRange low.now high.now }
-    requires table { IsTable rows.old }
-    requires known { AreKnown carton.now low.now high.now known.old }
-    ensures table { IsTable rows.new }
-    ensures rows { TellAsMuch carton.now low.now high.now rows.old rows.new }
-    ensures known { AreKnown carton.now low.now high.now known.new }
-{
-    if serves(carton, frame, rows) {
-        close_in::<E>(carton, low, high, frame, rows, known);
     }
 }
 
@@ -282,11 +264,11 @@ pub fn close_all<E: Enclose>(
     }
     let count = carton.panels();
     let root = carton.root();
-    let mut known: Known = [None; MOST_PANELS];
-    close_served::<E>(carton, low, high, root, rows, &mut known);
+    let mut known: Placements = [None; MOST_PANELS];
+    close_in::<E>(carton, low, high, root, rows, &mut known);
     for f in 0..count {
         if f != root.0 {
-            close_served::<E>(carton, low, high, PanelId(f), rows, &mut known);
+            close_in::<E>(carton, low, high, PanelId(f), rows, &mut known);
         }
     }
 }

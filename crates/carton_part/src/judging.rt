@@ -9,9 +9,11 @@ ghost use Rattle.carton_part.specs.Parted.{AreStrangers};
 
 use crate::closing::{Row, all_strangers, close_all};
 use crate::over::{Parting, part_open};
+use crate::pair::Pair;
 use carton_base::{MOST_PANELS, Moment, Motion, PanelId, State};
 use carton_enclose::Enclose;
 use carton_tree::Carton;
+use std::marker::PhantomData;
 
 /// What is known of all panels over a move.
 #[derive(Clone, Copy, Debug, PartialEq, Eq)]
@@ -46,12 +48,22 @@ fn blocked_in<E: Enclose>(
     requires row { IsRowOf carton.now motion.now a.0 row.now }
     requires slack { (1 ≤ slack) × (slack ≤ 1000) }
     ensures some { IfSome result (λ t. AreBlocked carton.now motion.now a.0 t.panel.0 slack t.moment) }
-    ensures none { result ≡ None → (b : ℕ) → AreStrangers carton.now a.0 b → StayParted carton.now motion.now a.0 b (pos 0) }
+    ensures none { result ≡ None → (b : ℕ) → AreStrangers carton.now a.0 b
+        → StayParted carton.now motion.now a.0 b (pos 0) }
 {
     for b in 0..carton.panels() {
         if row[b as usize] {
             let panel = PanelId(b);
-            if let Parting::Undecided(moment) = part_open::<E>(carton, motion, a, panel, 0, slack) {
+            let mut pair = Pair::<E> {
+                carton,
+                motion,
+                a,
+                b: panel,
+                gap: 0,
+                slack,
+                numbers: PhantomData,
+            };
+            if let Parting::Undecided(moment) = part_open(&mut pair) {
                 return Some(Touch { panel, moment });
             }
         }
@@ -69,7 +81,8 @@ pub struct OpenPairs {
 /// move between the two states, whichever of these is the lower. The table serves all these moves.
 pub fn open_pairs<E: Enclose>(carton: &Carton, low: &State, high: &State) -> OpenPairs
     requires range { IsRange low.now high.now }
-    ensures pairs { (motion : Motion) → IsMotionBetween low.now high.now motion → AreRowsOf carton.now motion result.rows }
+    ensures pairs { (motion : Motion) → IsMotionBetween low.now high.now motion
+        → AreRowsOf carton.now motion result.rows }
     ensures table { IsTable result.rows }
 {
     let mut rows = all_strangers(carton);

@@ -5,11 +5,13 @@ mod closing;
 mod frames;
 mod judging;
 mod laws;
-mod looking;
 mod over;
-mod walk;
+mod pair;
+mod pieces;
+mod sight;
 
 pub use judging::{OpenPairs, Verdict, judge_motion, judge_open, open_pairs};
 pub use laws::{corners_part_panels, parted_by_less, parted_panels_do_not_meet};
 pub use over::{Counted, Parting, part_counted, part_over};
-pub use walk::next as next_piece;
+pub use pieces::{Walked, next as next_piece, walk};
+pub use sight::{Look, Sight};

@@ -3,11 +3,13 @@ ghost use Rattle.carton_base.specs.declared.limits.TheConstants.{MOST_JOINTS};
 ghost use Rattle.carton_model.specs.Moves.{IsMotion};
 ghost use Rattle.carton_part.specs.Answers.{IsPartingOf};
 
-use crate::looking::{Seen, look, look_first};
-use crate::walk::next;
+use crate::pair::Pair;
+use crate::pieces::walk;
+use crate::sight::Sight;
 use carton_base::{Moment, Motion, PanelId, Piece};
 use carton_enclose::Enclose;
 use carton_tree::Carton;
+use std::marker::PhantomData;
 
 /// What is known of two panels over a move.
 #[derive(Clone, Copy, Debug, PartialEq, Eq)]
@@ -25,47 +27,24 @@ pub struct Counted {
     pub pieces: u64,
 }
 
-// The walk over the pieces of the move from its beginning, the first of which is given.
-fn walk_from<E: Enclose>(
-    carton: &Carton,
-    motion: &Motion,
-    a: PanelId,
-    b: PanelId,
-    start: Piece,
-    gap: i64,
-    slack: u16,
-) -> Counted
-    requires a { a.0 < length carton.now.panels }
-    requires b { b.0 < length carton.now.panels }
-    requires motion { IsMotion MOST_JOINTS motion.now }
+// What a walk over the move tells of the two panels, where its first piece is given.
+fn part_from<E: Enclose>(pair: &mut Pair<'_, E>, start: Piece) -> Counted
     requires start { start.index ≡ 0 }
-    requires gap { (pos 0 ≤ℤ gap) × (gap ≤ℤ pos 9999) }
-    requires slack { (1 ≤ slack) × (slack ≤ 1000) }
-    ensures parting { IsPartingOf carton.now motion.now a.0 b.0 gap slack result.parting }
+    ensures parting { IsPartingOf pair.old.carton.now pair.old.motion.now pair.old.a.0 pair.old.b.0
+        pair.old.gap pair.old.slack result.parting }
     ensures pieces { 1 ≤ result.pieces }
 {
-    let mut piece = start;
-    let mut pieces = 0u64;
-    loop {
-        pieces = pieces.saturating_add(1);
-        match look::<E>(carton, motion, a, b, piece, gap, slack) {
-            Seen::Parted => match next(piece) {
-                Some(after) => piece = after,
-                None => {
-                    return Counted {
-                        parting: Parting::Parted,
-                        pieces,
-                    };
-                }
-            },
-            Seen::Hopeless => {
-                return Counted {
-                    parting: Parting::Undecided(piece.first()),
-                    pieces,
-                };
-            }
-            Seen::Open => piece = piece.halves().0,
-        }
+    let walked = walk(pair, start);
+    let pieces = walked.pieces;
+    match walked.bad {
+        None => Counted {
+            parting: Parting::Parted,
+            pieces,
+        },
+        Some(moment) => Counted {
+            parting: Parting::Undecided(moment),
+            pieces,
+        },
     }
 }
 
@@ -86,7 +65,16 @@ pub fn part_counted<E: Enclose>(
     ensures parting { IsPartingOf carton.now motion.now a.0 b.0 gap slack result.parting }
     ensures pieces { 1 ≤ result.pieces }
 {
-    walk_from::<E>(carton, motion, a, b, Piece::whole(), gap, slack)
+    let mut pair = Pair::<E> {
+        carton,
+        motion,
+        a,
+        b,
+        gap,
+        slack,
+        numbers: PhantomData,
+    };
+    part_from(&mut pair, Piece::whole())
 }
 
 /// Whether at every moment of the move some frame between the two panels parts them by more than
@@ -112,28 +100,14 @@ pub fn part_over<E: Enclose>(
 
 /// As `part_over`, for two panels that no frame is known to part over the whole move. The whole move
 /// is looked at only for whether its halves may tell more.
-pub fn part_open<E: Enclose>(
-    carton: &Carton,
-    motion: &Motion,
-    a: PanelId,
-    b: PanelId,
-    gap: i64,
-    slack: u16,
-) -> Parting
-    requires a { a.0 < length carton.now.panels }
-    requires b { b.0 < length carton.now.panels }
-    requires motion { IsMotion MOST_JOINTS motion.now }
-    requires gap { (pos 0 ≤ℤ gap) × (gap ≤ℤ pos 9999) }
-    requires slack { (1 ≤ slack) × (slack ≤ 1000) }
-    ensures { IsPartingOf carton.now motion.now a.0 b.0 gap slack result }
+pub fn part_open<E: Enclose>(pair: &mut Pair<'_, E>) -> Parting
+    ensures { IsPartingOf pair.old.carton.now pair.old.motion.now pair.old.a.0 pair.old.b.0
+        pair.old.gap pair.old.slack result }
 {
     let whole = Piece::whole();
-    match look_first::<E>(carton, motion, a, b, whole, gap, slack) {
-        Seen::Parted => Parting::Parted,
-        Seen::Hopeless => Parting::Undecided(whole.first()),
-        Seen::Open => {
-            let half = whole.halves().0;
-            walk_from::<E>(carton, motion, a, b, half, gap, slack).parting
-        }
+    match pair.see_first(whole) {
+        Sight::Good => Parting::Parted,
+        Sight::Bad => Parting::Undecided(whole.first()),
+        Sight::Open => part_from(pair, whole.halves().0).parting,
     }
 }

@@ -1,5 +1,7 @@
-use crate::moves::{TRAY, carton, motion};
+use crate::moves::motion;
 use carton_base::PanelId;
+use carton_cases::carton_of;
+use carton_cases::dielines::BARE_TRAY;
 use carton_fix::Fix;
 use carton_part::{Counted, Parting, part_counted, part_over};
 use std::alloc::Global;
@@ -24,69 +26,29 @@ const BELOW: &str =
 const LONG: &str =
     r#"{"vertices_coords":[[-2195,0],[0,0],[3202,0],[8102,0],[-2195,100],[0,100],[3202,100],[8102,100]],"edges_vertices":[[1,5],[2,6],[0,1],[1,2],[2,3],[3,7],[7,6],[6,5],[5,4],[4,0]],"faces_vertices":[[0,1,5,4],[1,2,6,5],[2,3,7,6]]}"#;
 
-// A carton by its dieline, margin and root, and a move of it.
-struct Setup {
-    text: &'static str,
-    margin: u16,
-    root: u8,
-    grid: u8,
-    from: [i8; 4],
-    to: [i8; 4],
-}
+// A carton by its dieline, margin and root; the grid; and the stops of the first four joints before and
+// after a move.
+type Setup = (&'static str, u16, u8, u8, [i8; 4], [i8; 4]);
 
-const LAST_MOVE: Setup = Setup {
-    text: TRAY,
-    margin: 4,
-    root: 0,
-    grid: 8,
-    from: [7; 4],
-    to: [8; 4],
-};
+const LAST_MOVE: Setup = (BARE_TRAY, 4, 0, 8, [7; 4], [8; 4]);
 
-const TILTED: Setup = Setup {
-    text: VEE,
-    margin: 1,
-    root: 1,
-    grid: 8,
-    from: [12, 4, 0, 0],
-    to: [12, 4, 0, 0],
-};
+const TILTED: Setup = (VEE, 1, 1, 8, [12, 4, 0, 0], [12, 4, 0, 0]);
 
-const JUST_ABOVE: Setup = Setup {
-    text: ABOVE,
-    margin: 4,
-    root: 0,
-    grid: 16,
-    from: [22, 1, 9, 3],
-    to: [26, 1, 9, 3],
-};
+const JUST_ABOVE: Setup = (ABOVE, 4, 0, 16, [22, 1, 9, 3], [26, 1, 9, 3]);
 
-const JUST_BELOW: Setup = Setup {
-    text: BELOW,
-    margin: 2,
-    root: 0,
-    grid: 16,
-    from: [22, -1, 13, -15],
-    to: [26, -1, 13, -15],
-};
+const JUST_BELOW: Setup = (BELOW, 2, 0, 16, [22, -1, 13, -15], [26, -1, 13, -15]);
 
 // The right flap leans over the root, with sine 4/5, and the left one swings by below it.
-const SWINGING: Setup = Setup {
-    text: LONG,
-    margin: 4,
-    root: 1,
-    grid: 8,
-    from: [10, 12, 0, 0],
-    to: [14, 12, 0, 0],
-};
+const SWINGING: Setup = (LONG, 4, 1, 8, [10, 12, 0, 0], [14, 12, 0, 0]);
 
 // What is told of two panels with slack 1, where both calls tell the same.
 fn counted(alloc: Global, setup: &Setup, a: u8, b: u8, gap: i64) -> Option<Counted> {
-    if setup.margin > 1000 || gap < 0 || gap > 9999 {
+    let (text, margin, root, grid, from, to) = *setup;
+    if margin > 1000 || gap < 0 || gap > 9999 {
         return None;
     }
-    let carton = carton(alloc, setup.text, setup.margin, setup.root)?;
-    let motion = motion(setup.grid, setup.from, setup.to)?;
+    let carton = carton_of(alloc, text, margin, root)?;
+    let motion = motion(grid, from, to)?;
     if a >= carton.panels() || b >= carton.panels() {
         return None;
     }

@@ -1,5 +1,6 @@
-use crate::moves::{carton, motion};
+use crate::moves::motion;
 use carton_base::{PanelId, Piece};
+use carton_cases::carton_of;
 use carton_fix::Fix;
 use carton_reach::{Reaches, are_apart, are_near, reaches};
 use carton_tree::Carton;
@@ -26,7 +27,7 @@ fn reach(carton: &Carton, panel: u8, frame: u8) -> Option<Reaches> {
 
 #[test]
 fn nine_joints_are_too_far(rt: HostRuntime) {
-    let Some(carton) = carton(rt.alloc(), ROW, 4, 4) else {
+    let Some(carton) = carton_of(rt.alloc(), ROW, 4, 4) else {
         panic!(rt; "no carton");
     };
     assert!(rt; reach(&carton, 0, 8).is_some());
@@ -36,7 +37,7 @@ fn nine_joints_are_too_far(rt: HostRuntime) {
 
 #[test]
 fn squares_of_a_row_are_apart(rt: HostRuntime) {
-    let Some(carton) = carton(rt.alloc(), ROW, 4, 4) else {
+    let Some(carton) = carton_of(rt.alloc(), ROW, 4, 4) else {
         panic!(rt; "no carton");
     };
     let (Some(first), Some(last)) = (reach(&carton, 0, 8), reach(&carton, 8, 8)) else {

@@ -1,12 +1,14 @@
-use crate::moves::{TRAY, carton, motion};
+use crate::moves::motion;
 use carton_base::{Moment, PanelId};
+use carton_cases::carton_of;
+use carton_cases::dielines::BARE_TRAY;
 use carton_fix::Fix;
 use carton_part::{OpenPairs, Verdict, judge_motion, open_pairs};
 use std::alloc::Global;
 
 // What is told of all panels of the tray with margin 4 over a move, with slack 1.
 fn verdict(alloc: Global, from: [i8; 4], to: [i8; 4]) -> Option<Verdict> {
-    let carton = carton(alloc, TRAY, 4, 0)?;
+    let carton = carton_of(alloc, BARE_TRAY, 4, 0)?;
     let motion = motion(8, from, to)?;
     Some(judge_motion::<Fix>(&carton, &motion, 1))
 }
@@ -55,7 +57,7 @@ fn flaps_in_one_place_are_blocked(rt: HostRuntime) {
 
 // The pairs of the tray that stay open over all moves from flat to these stops.
 fn pairs(alloc: Global, to: [i8; 4]) -> Option<OpenPairs> {
-    let carton = carton(alloc, TRAY, 4, 0)?;
+    let carton = carton_of(alloc, BARE_TRAY, 4, 0)?;
     let flat = motion(8, [0; 4], [0; 4])?;
     let folded = motion(8, to, to)?;
     Some(open_pairs::<Fix>(&carton, &flat.from, &folded.from))

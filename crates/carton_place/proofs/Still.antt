@@ -36,6 +36,7 @@ move_in_all_places joints m h = record {
   to = in_all_places joints m.to h.to;
   steps = λ k l. elim (cases_lt k joints) [
     | inl lt ↦ h.steps k lt
-    | inr ge ↦ let a = h.from.others k (omega (arith, ge)) l in let b = h.to.others k (omega (arith, ge)) l in omega (arith, ints, a, b)
+    | inr ge ↦ let a = h.from.others k (omega (arith, ge)) l in let b = h.to.others k (omega (arith, ge)) l in
+        omega (arith, ints, a, b)
   ];
 }

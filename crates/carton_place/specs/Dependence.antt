@@ -13,5 +13,6 @@ AreAlikeAt a b (Some k) = (stop_of a.from k ≡ stop_of b.from k) × (stop_of a.
 
 -- two moves on one grid that are alike at the joints of the turns place each point alike, at every moment
 abbrev pub DependsOnItsJoints : Type 0
-DependsOnItsJoints = (a b : Motion) (turns : List Turn) → a.from.grid ≡ b.from.grid → All (λ t. AreAlikeAt a b t.place) turns
+DependsOnItsJoints = (a b : Motion) (turns : List Turn) → a.from.grid ≡ b.from.grid
+    → All (λ t. AreAlikeAt a b t.place) turns
     → (n d : ℕ) (p : Position) → placed (fold_at a n d) turns p ≡ placed (fold_at b n d) turns p

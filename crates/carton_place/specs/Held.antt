@@ -1,4 +1,5 @@
--- What the parts of a position and the ratios of joints hold at a moment, and how large and how wide they are, in units of 2^-40.
+-- What the parts of a position and the ratios of joints hold at a moment, and how large and how wide they
+-- are, in units of 2^-40.
 use Rattle.std.specs.Prelude.{⊤, ℕ, ◌<◌, ◌≤◌, max, List, [], ◌∷◌, ℤ, pos, ◌-ℤ◌, ◌<ℤ◌, unsigned_abs}
 use Rattle.carton_model.specs.Parting.{Position}
 use Rattle.carton_model.specs.Turning.{Angle}
@@ -11,20 +12,26 @@ use Rattle.carton_place.specs.declared.swings.Ramp.{Ramp}
 use Rattle.carton_place.specs.declared.swings.Swing.{Swing}
 
 -- the space holds the position at the moment n / d
-pub record HoldsPosition {E : Type 0} (holds : Holding E) (s : Space E) (n d : ℕ) (p : Position) : Type 0 where
-  pub positive : pos 0 <ℤ p.w
-  pub point : HoldsPoint holds s n d p.x p.y p.z (unsigned_abs p.w)
+pub record HoldsPosition {E : Type 0} (holds : Holding E) (s : Space E) (n d : ℕ) (p : Position) : Type 0
+  where
+    pub positive : pos 0 <ℤ p.w
+    pub point : HoldsPoint holds s n d p.x p.y p.z (unsigned_abs p.w)
 
--- the ramp has x / v at the moment n / d: a number of its start and n / d times one of its slope, and within all
-pub record HoldsOnRamp (r : Ramp) (n d : ℕ) (x : ℤ) (v : ℕ) : Type 0 where
+-- p / u is a number of the ramp's start, and q / u one of its slope
+pub record RampLine (r : Ramp) : Type 0 where
   pub p : ℤ
   pub q : ℤ
   pub u : ℕ
   pub some : 0 < u
   pub begins : IsBetween r.start.lo r.start.hi p u
   pub rate : IsBetween r.slope.lo r.slope.hi q u
+
+-- the ramp has x / v at the moment n / d: a number of its start and n / d times one of its slope, and within
+-- all
+pub record HoldsOnRamp (r : Ramp) (n d : ℕ) (x : ℤ) (v : ℕ) : Type 0 where
+  pub line : RampLine r
   pub within : IsBetween r.all.lo r.all.hi x v
-  pub reached : IsReached n d p q u x v
+  pub reached : IsReached n d line.p line.q line.u x v
 
 -- the swing has the angle's cosine and sine at the moment n / d
 pub record HoldsSwing (s : Swing) (n d : ℕ) (a : Angle) : Type 0 where

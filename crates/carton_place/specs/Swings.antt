@@ -1,5 +1,6 @@
 -- What the swing of a joint has at the moments of a piece, and how close its bounds are.
-use Rattle.std.specs.Prelude.{◌≡◌, ℕ, ◌+◌, ◌*◌, ◌≤◌, ◌^◌, Option, None, Some, List, All, pos, ◌-ℤ◌, ◌<ℤ◌, unsigned_abs}
+use Rattle.std.specs.Prelude.{◌≡◌, ℕ, ◌+◌, ◌*◌, ◌≤◌, ◌^◌, Option, None, Some, List, All, pos, ◌-ℤ◌, ◌<ℤ◌}
+use Rattle.std.specs.Prelude.{unsigned_abs}
 use Rattle.carton_base.specs.declared.motion.Motion.{Motion}
 use Rattle.carton_base.specs.declared.motion.Turn.{Turn}
 use Rattle.carton_base.specs.declared.numbers.Bounds.{Bounds}
@@ -24,14 +25,16 @@ IsPartAt index depth m n d = m + index * d ≡ n * 2 ^ depth
 
 -- at every moment of the piece the swing has the angle of the joint's fold
 abbrev pub FollowsMove : Swing → Motion → Option ℕ → ℕ → ℕ → Type 0
-FollowsMove s motion place index depth = (m n d : ℕ) → IsMoment m d → IsPartAt index depth m n d → HoldsSwing s m d (angle_of (fold_of (fold_at motion n d) place))
+FollowsMove s motion place index depth = (m n d : ℕ) → IsMoment m d → IsPartAt index depth m n d
+    → HoldsSwing s m d (angle_of (fold_of (fold_at motion n d) place))
 
 -- by how many stops a move changes the joint
 abbrev pub change_of : Motion → Option ℕ → ℕ
 change_of motion None = 0
 change_of motion (Some k) = unsigned_abs (stop_of motion.to k -ℤ stop_of motion.from k)
 
--- the bounds of cosine and sine are within two units of twice the fold's change: so many parts of `den` in a right angle
+-- the bounds of cosine and sine are within two units of twice the fold's change: so many parts of `den` in a
+-- right angle
 pub record IsClose (change den : ℕ) (s : Swing) : Type 0 where
   pub cos : unsigned_abs (s.cos.all.hi -ℤ s.cos.all.lo) * den ≤ 2 ^ 41 * change + 2 * den
   pub sin : unsigned_abs (s.sin.all.hi -ℤ s.sin.all.lo) * den ≤ 2 ^ 41 * change + 2 * den

@@ -1,5 +1,6 @@
-ghost use Rattle.std.specs.Prelude.{◌≡◌, ℕ, ◌*◌, ◌<◌, ◌≤◌, ◌^◌, Option, ℤ, ◌-ℤ◌, ◌≤ℤ◌, unsigned_abs};
+ghost use Rattle.std.specs.Prelude.{ℕ, None};
 ghost use Rattle.carton_base.specs.Moments.{IsMoment};
+ghost use Rattle.carton_base.specs.declared.motion.Motion.{Motion};
 ghost use Rattle.carton_base.specs.declared.limits.TheConstants.{MOST_JOINTS};
 ghost use Rattle.carton_model.specs.Moves.{IsMotion};
 ghost use Rattle.carton_model.specs.Turning.{IsTurn, angle_of};
@@ -32,6 +33,17 @@ pub fn swing_of(f: FoldSpan) -> Swing
     Swing { cos, sin }
 }
 
+// How a joint that stays flat swings, over any piece.
+pub(crate) fn still() -> Swing
+    ensures { (motion : Motion) (index depth : ℕ) → IsSwingOver motion None index depth result }
+{
+    swing_of(FoldSpan {
+        from: 0,
+        to: 0,
+        den: 1,
+    })
+}
+
 /// How a joint swings over a piece of a move. A locked joint stays flat.
 pub fn swing_over(turn: &Turn, motion: &Motion, piece: Piece) -> Swing
     requires turn { IsTurn turn.now }
@@ -39,11 +51,7 @@ pub fn swing_over(turn: &Turn, motion: &Motion, piece: Piece) -> Swing
     ensures { IsSwingOver motion.now turn.now.place piece.index piece.depth result }
 {
     let Some(place) = turn.place else {
-        return swing_of(FoldSpan {
-            from: 0,
-            to: 0,
-            den: 1,
-        });
+        return still();
     };
     let from = Stop(motion.from.stops[place as usize]);
     let to = Stop(motion.to.stops[place as usize]);

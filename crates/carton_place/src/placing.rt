@@ -1,4 +1,5 @@
-ghost use Rattle.std.specs.Prelude.{◌≡◌, ℕ, ◌+◌, ◌-◌, ◌*◌, ◌<◌, ◌≤◌, ◌^◌, List, length, get_or, All, pos, ◌≤ℤ◌, ◌<ℤ◌, unsigned_abs};
+ghost use Rattle.std.specs.Prelude.{◌≡◌, ℕ, ◌+◌, ◌-◌, ◌*◌, ◌<◌, ◌≤◌, ◌^◌, List, length, get_or, All, pos};
+ghost use Rattle.std.specs.Prelude.{◌≤ℤ◌, ◌<ℤ◌, unsigned_abs};
 ghost use Rattle.carton_base.specs.Fractions.{IsRounded};
 ghost use Rattle.carton_base.specs.Moments.{IsMoment, InPiece};
 ghost use Rattle.carton_base.specs.declared.limits.TheConstants.{FARTHEST, LONGEST_PATH, MOST_JOINTS};
@@ -11,12 +12,11 @@ ghost use Rattle.carton_place.specs.Held.{HoldsPosition, HoldSwings, IsSwingWith
 ghost use Rattle.carton_place.specs.Sizes.{edge_of_sheet};
 ghost use Rattle.carton_place.specs.Swings.{IsPartAt, IsSwingOver, ChangesWithin, IsFlatWithin};
 
-use crate::joints::{swing_of, swing_over};
+use crate::joints::{still, swing_over};
 use crate::swings::Swing;
 use crate::turns::turn_through;
 use carton_base::{Bounds, LONGEST_PATH, Motion, Piece, Triple, Turn, fraction};
 use carton_enclose::{Enclose, Space};
-use carton_halfturn::FoldSpan;
 
 /// How the joints of these turns swing over a piece of a move, in the first places, one for each turn.
 pub fn swings_over(turns: &[Turn], motion: &Motion, piece: Piece) -> [Swing; LONGEST_PATH]
@@ -24,14 +24,10 @@ pub fn swings_over(turns: &[Turn], motion: &Motion, piece: Piece) -> [Swing; LON
     requires turns { All IsTurn turns.now }
     requires motion { IsMotion MOST_JOINTS motion.now }
     ensures length { length result ≡ LONGEST_PATH }
-    ensures swings { (k : ℕ) (s : Swing) (t : Turn) → k < length turns.now → IsSwingOver motion.now (get_or turns.now k t).place piece.index piece.depth (get_or result k s) }
+    ensures swings { (k : ℕ) (s : Swing) (t : Turn) → k < length turns.now
+        → IsSwingOver motion.now (get_or turns.now k t).place piece.index piece.depth (get_or result k s) }
 {
-    let still = swing_of(FoldSpan {
-        from: 0,
-        to: 0,
-        den: 1,
-    });
-    let mut swings = [still; LONGEST_PATH];
+    let mut swings = [still(); LONGEST_PATH];
     for i in 0..turns.len() {
         swings[i] = swing_over(&turns[i], motion, piece);
     }
@@ -46,10 +42,12 @@ pub fn place_from<E: Enclose>(turns: &[Turn], swings: &[Swing], x: Bounds, y: Bo
     requires one_each { length swings.now ≡ length turns.now }
     requires x { size_of x.lo x.hi ≤ edge_of_sheet }
     requires y { size_of y.lo y.hi ≤ edge_of_sheet }
-    ensures holds { (m d : ℕ) (angles : List Angle) (q : Position) → IsMoment m d → HoldSwings swings.now m d angles → IsFlatWithin x y q
+    ensures holds { (m d : ℕ) (angles : List Angle) (q : Position) → IsMoment m d
+        → HoldSwings swings.now m d angles → IsFlatWithin x y q
         → HoldsPosition E.holds result m d (turned_through turns.now angles q) }
     ensures size { greatest E.size result ≤ 2 ^ 63 }
-    ensures spread { (e : ℕ) → 2 ≤ e → spread_of x.lo x.hi ≤ 1 → spread_of y.lo y.hi ≤ 1 → All (IsSwingWithin e) swings.now
+    ensures spread { (e : ℕ) → 2 ≤ e → spread_of x.lo x.hi ≤ 1 → spread_of y.lo y.hi ≤ 1
+        → All (IsSwingWithin e) swings.now
         → greatest E.spread result ≤ 2 ^ 27 * e }
 {
     turn_through(
@@ -85,10 +83,12 @@ pub fn place<E: Enclose>(turns: &[Turn], corner: Triple, motion: &Motion, piece:
     ensures holds { (m n d : ℕ) → IsMoment m d → IsPartAt piece.index piece.depth m n d
         → HoldsPosition E.holds result m d (placed (fold_at motion.now n d) turns.now (laid corner)) }
     ensures within { (n d : ℕ) → IsMoment n d → InPiece piece.index piece.depth n d
-        → HoldsPosition E.holds result (n * 2 ^ piece.depth - piece.index * d) d (placed (fold_at motion.now n d) turns.now (laid corner)) }
+        → HoldsPosition E.holds result (n * 2 ^ piece.depth - piece.index * d) d
+        (placed (fold_at motion.now n d) turns.now (laid corner)) }
     ensures size { greatest E.size result ≤ 2 ^ 63 }
     ensures spread { (c : ℕ) → ChangesWithin c motion.now turns.now
-        → greatest E.spread result * (motion.now.from.grid * 2 ^ piece.depth) ≤ 2 ^ 27 * (2 * (motion.now.from.grid * 2 ^ piece.depth) + 2 ^ 41 * c) }
+        → greatest E.spread result * (motion.now.from.grid * 2 ^ piece.depth)
+        ≤ 2 ^ 27 * (2 * (motion.now.from.grid * 2 ^ piece.depth) + 2 ^ 41 * c) }
 {
     let swings = swings_over(turns, motion, piece);
     let x = coordinate(corner.x, corner.w);

@@ -15,7 +15,8 @@ pub struct Ratio<E> {
 
 // The numbers of a ramp, moment by moment.
 fn along_ramp<E: Enclose>(r: &Ramp) -> E
-    ensures holds { (n d : ℕ) (x : ℤ) (v : ℕ) → IsMoment n d → 0 < v → HoldsOnRamp r.now n d x v → E.holds result n d x v }
+    ensures holds { (n d : ℕ) (x : ℤ) (v : ℕ) → IsMoment n d → 0 < v → HoldsOnRamp r.now n d x v
+        → E.holds result n d x v }
     ensures size { E.size result ≤ 2 ^ 40 }
     ensures spread { E.spread result ≤ unsigned_abs (r.now.all.hi -ℤ r.now.all.lo) }
 {
@@ -25,7 +26,8 @@ fn along_ramp<E: Enclose>(r: &Ramp) -> E
 
 /// The cosine and the sine of a swing, enclosed.
 pub fn ratio_of<E: Enclose>(s: &Swing) -> Ratio<E>
-    ensures holds { (n d : ℕ) (a : Angle) → IsMoment n d → HoldsSwing s.now n d a → HoldsAngle E.holds result n d a }
+    ensures holds { (n d : ℕ) (a : Angle) → IsMoment n d → HoldsSwing s.now n d a
+        → HoldsAngle E.holds result n d a }
     ensures size { IsRatioWithin E.size (2 ^ 40) result }
     ensures spread { (e : ℕ) → IsSwingWithin e s.now → IsRatioWithin E.spread e result }
 {

@@ -1,7 +1,6 @@
 pub mod Judged
 pub mod MadeLines
 pub mod OneFlat
-pub mod OneRefusal
 pub mod Parted
 pub mod PlanSound
 pub mod Reached

@@ -5,22 +5,27 @@ use Rattle.carton_base.specs.declared.moments.Moment.{Moment}
 use Rattle.carton_check.specs.Checks.{IsChecked}
 use Rattle.carton_check.specs.Sound.{IsSound}
 use Rattle.carton_check.specs.declared.checked.Checked.{Checked}
-use Rattle.carton_check.specs.declared.checked.Checked.TheVariants.{WrongCreases, WrongStart, WrongEnd, NotOneStop, Blocked, Holds}
+use Rattle.carton_check.specs.declared.checked.Checked.TheVariants.{WrongCreases, WrongStart, WrongEnd}
+use Rattle.carton_check.specs.declared.checked.Checked.TheVariants.{NotOneStop, Blocked, Holds}
 use Rattle.carton_text.specs.PlainPlans.{plain}
 use Rattle.carton_text.specs.Plans.{plan_of}
 use Rattle.carton_text.specs.declared.plan.Plan.{Plan}
 use Rattle.carton_setup.specs.Files.{file_at}
 use Rattle.carton_setup.specs.Outcomes.{Outcomes, ◌>>=◌, gives, values}
 use Rattle.carton_setup.specs.Printed.{line, spaced, moment_text}
-use Rattle.carton_setup.specs.Setups.{setups, plans}
+use Rattle.carton_setup.specs.Proposals.{proposals}
+use Rattle.carton_setup.specs.Setups.{setups}
 use Rattle.carton_setup.specs.Telling.{done, denied}
+use Rattle.carton_setup.specs.declared.proposal.Proposal.{Proposal}
 use Rattle.carton_setup.specs.declared.setup.Setup.{Setup}
 use Rattle.carton_setup.specs.declared.told.Ending.TheVariants.{Done}
 use Rattle.carton_setup.specs.declared.told.Told.{Told}
 
 -- two panels aren't parted well at this moment of a move
 abbrev pub blocked_text : ℕ → PanelId → PanelId → Moment → List ℕ
-blocked_text i a b m = codes "blocked move" ++ spaced i ++ (codes " panels" ++ spaced a.0 ++ (spaced b.0 ++ (codes " moment " ++ moment_text m)))
+blocked_text i a b m =
+    codes "blocked move" ++ spaced i
+    ++ (codes " panels" ++ spaced a.0 ++ (spaced b.0 ++ (codes " moment " ++ moment_text m)))
 
 -- a move is too long; where the stride is one stop, it is said so
 abbrev pub too_long_text : ℕ → List ℕ
@@ -44,22 +49,27 @@ told_check stride WrongEnd = denied (line (checked_text stride WrongEnd))
 told_check stride (NotOneStop i) = denied (line (checked_text stride (NotOneStop i)))
 told_check stride (Blocked i a b m) = denied (line (checked_text stride (Blocked i a b m)))
 
--- what came of checking a plan for a carton and a task: the first rule that fails, or that it holds, and then it is sound
-pub record IsCheckOf (s : Setup) (plan : Plan) (checked : Checked) : Type 0 where
-  pub checked_is : IsChecked s.carton s.task plan checked
-  pub sound : (moves : ℕ) → checked ≡ Holds moves → IsSound s.carton s.task plan
+-- a plan is sound for the carton and the task
+abbrev pub IsSoundProposal : Proposal → Type 0
+IsSoundProposal p = IsSound p.setup.carton p.setup.task p.plan
+
+-- what came of checking a plan for a carton and a task: the first rule that fails, or that it holds, and then
+-- it is sound
+pub record IsCheckOf (p : Proposal) (checked : Checked) : Type 0 where
+  pub checked_is : IsChecked p.setup.carton p.setup.task p.plan checked
+  pub sound : (moves : ℕ) → checked ≡ Holds moves → IsSoundProposal p
 
 -- what `check` may tell for the bytes of its files
 abbrev pub tells_check : List (List ℕ) → Outcomes Told
 tells_check files = do
-  s ← setups files
-  p ← plans files
-  checked ← values (IsCheckOf s p)
-  gives (told_check s.task.stride checked)
+  p ← proposals files
+  checked ← values (IsCheckOf p)
+  gives (told_check p.setup.task.stride checked)
 
 -- the bytes are those of a carton, of a task on it, and of a plan that is sound for them
 abbrev pub AreSound : List (List ℕ) → Type 0
-AreSound files = (s : Setup) × (p : Plan) × setups files (Ok s) × (plan_of (file_at 2 files) ≡ Ok (plain p)) × IsSound s.carton s.task p
+AreSound files = (s : Setup) × (p : Plan) × setups files (Ok s) × (plan_of (file_at 2 files) ≡ Ok (plain p))
+    × IsSound s.carton s.task p
 
 -- done is told only of a sound plan
 abbrev pub IsDoneOfSound : List (List ℕ) → Told → Type 0

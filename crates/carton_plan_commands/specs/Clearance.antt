@@ -2,25 +2,26 @@
 use Rattle.std.specs.Prelude.{ℕ, List, ◌++◌, flat_map, length, codes}
 use Rattle.carton_base.specs.declared.ids.PanelId.{PanelId}
 use Rattle.carton_base.specs.declared.moments.Moment.{Moment}
-use Rattle.carton_check.specs.Sound.{IsSound}
 use Rattle.carton_report.specs.Clearances.{IsCleared}
 use Rattle.carton_report.specs.declared.cleared.Cleared.TheVariants.{Rows as AllRows, Fails as Failed}
 use Rattle.carton_report.specs.declared.cleared.Row.{Row}
 use Rattle.carton_report.specs.declared.cleared.Row.TheVariants.{Wide, Tight}
-use Rattle.carton_text.specs.declared.plan.Plan.{Plan}
 use Rattle.carton_setup.specs.Outcomes.{Outcomes, ◌>>=◌, gives, values}
 use Rattle.carton_setup.specs.Printed.{line, spaced, moment_text}
-use Rattle.carton_setup.specs.Setups.{setups, plans}
+use Rattle.carton_setup.specs.Proposals.{proposals}
 use Rattle.carton_setup.specs.Telling.{done, denied}
-use Rattle.carton_setup.specs.declared.setup.Setup.{Setup}
+use Rattle.carton_setup.specs.declared.proposal.Proposal.{Proposal}
 use Rattle.carton_setup.specs.declared.told.Told.{Told}
-use Rattle.carton_plan_commands.specs.Check.{checked_text}
+use Rattle.carton_plan_commands.specs.Check.{checked_text, IsSoundProposal}
 use Rattle.carton_plan_commands.specs.declared.clearance.Report.{Report}
 use Rattle.carton_plan_commands.specs.declared.clearance.Report.TheVariants.{Rows, Fails}
 
 -- the two panels that come nearest in a move, how near, and when
 abbrev pub tight_text : ℕ → ℕ → PanelId → PanelId → Moment → List ℕ
-tight_text step clear a b m = codes "move" ++ spaced step ++ (codes " clear" ++ spaced clear ++ (codes " panels" ++ spaced a.0 ++ (spaced b.0 ++ (codes " moment " ++ moment_text m))))
+tight_text step clear a b m =
+    codes "move" ++ spaced step
+    ++ (codes " clear" ++ spaced clear
+    ++ (codes " panels" ++ spaced a.0 ++ (spaced b.0 ++ (codes " moment " ++ moment_text m))))
 
 -- the line of a move
 abbrev pub row_line : Row → List ℕ
@@ -37,14 +38,13 @@ told_report stride (Rows rows) = done (rows_text rows)
 told_report stride (Fails checked) = denied (line (checked_text stride checked))
 
 -- the report on a plan for a carton and a task: the rows of a sound plan, or why it doesn't hold
-abbrev pub IsReport : Setup → Plan → Report → Type 0
-IsReport s plan (Rows rows) = IsCleared s.carton s.task plan (AllRows rows) × IsSound s.carton s.task plan
-IsReport s plan (Fails checked) = IsCleared s.carton s.task plan (Failed checked)
+abbrev pub IsReport : Proposal → Report → Type 0
+IsReport p (Rows rows) = IsCleared p.setup.carton p.setup.task p.plan (AllRows rows) × IsSoundProposal p
+IsReport p (Fails checked) = IsCleared p.setup.carton p.setup.task p.plan (Failed checked)
 
 -- what `clearance` may tell for the bytes of its files
 abbrev pub tells_clearance : List (List ℕ) → Outcomes Told
 tells_clearance files = do
-  s ← setups files
-  p ← plans files
-  report ← values (IsReport s p)
-  gives (told_report s.task.stride report)
+  p ← proposals files
+  report ← values (IsReport p)
+  gives (told_report p.setup.task.stride report)

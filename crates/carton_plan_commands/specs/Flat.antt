@@ -1,5 +1,6 @@
 -- What `flat` tells: whether the shrunk panels of a flat dieline are parted.
-use Rattle.std.specs.Prelude.{◌≡◌, ◌≢◌, ◌⊎◌, ℕ, ◌<◌, ◌++◌, List, length, codes, All, AllPairs, Contains, Result, Ok, Err, None}
+use Rattle.std.specs.Prelude.{◌≡◌, ◌≢◌, ◌⊎◌, ℕ, ◌<◌, ◌++◌, List, length, codes, All, AllPairs, Contains}
+use Rattle.std.specs.Prelude.{Result, Ok, Err, None}
 use Rattle.carton_base.specs.declared.dieline.RawDieline.{RawDieline}
 use Rattle.carton_panels.specs.Panels.{face_at}
 use Rattle.carton_panels.specs.DielinePanels.{panel_places, ArePanels}
@@ -25,7 +26,8 @@ told_verdict (Blocked a b) = denied (line (codes "blocked" ++ spaced a.0 ++ spac
 
 -- two panels share no crease, so that they are to be parted
 abbrev pub AreJudged : RawDieline → ℕ → ℕ → Type 0
-AreJudged d a b = (a < b) × (b < length d.faces) × IsCommonCreaseAnswer d (face_at d a).corners (face_at d b).corners None
+AreJudged d a b = (a < b) × (b < length d.faces)
+    × IsCommonCreaseAnswer d (face_at d a).corners (face_at d b).corners None
 
 abbrev pub AreParted : ℕ → RawDieline → ℕ → ℕ → Type 0
 AreParted m d a b = IsFlatParted m (panel_places d a) m (panel_places d b)
@@ -40,12 +42,16 @@ pub record IsAllPairs (d : RawDieline) (pairs : List (ℕ × ℕ)) : Type 0 wher
   pub judged : All (λ p. AreJudged d p.0 p.1) pairs
   pub whole : (a b : ℕ) → AreJudged d a b → Contains pairs (a, b)
 
--- the answer for a dieline whose faces are all panels: so many pairs and all are parted, or the first that isn't
+-- the answer for a dieline whose faces are all panels: so many pairs and all are parted, or the first that
+-- isn't
 abbrev pub IsVerdict : ℕ → RawDieline → FlatVerdict → Type 0
-IsVerdict m d (Clear count) = ((a b : ℕ) → AreJudged d a b → AreParted m d a b) × ((pairs : List (ℕ × ℕ)) × IsAllPairs d pairs × (count ≡ length pairs))
-IsVerdict m d (Blocked a b) = AreJudged d a.0 b.0 × ¬ (AreParted m d a.0 b.0) × ((k l : ℕ) → IsBefore (k, l) (a.0, b.0) → AreJudged d k l → AreParted m d k l)
+IsVerdict m d (Clear count) = ((a b : ℕ) → AreJudged d a b → AreParted m d a b)
+    × ((pairs : List (ℕ × ℕ)) × IsAllPairs d pairs × (count ≡ length pairs))
+IsVerdict m d (Blocked a b) = AreJudged d a.0 b.0 × ¬ (AreParted m d a.0 b.0)
+    × ((k l : ℕ) → IsBefore (k, l) (a.0, b.0) → AreJudged d k l → AreParted m d k l)
 
--- what came of judging a dieline: a verdict where all faces are panels, and else why the first that is none is refused
+-- what came of judging a dieline: a verdict where all faces are panels, and else why the first that is none
+-- is refused
 abbrev pub IsJudged : ℕ → RawDieline → Result FlatVerdict PanelError → Type 0
 IsJudged m d (Ok verdict) = ArePanels m d (length d.faces) × IsVerdict m d verdict
 IsJudged m d (Err e) = e ≢ Memory → IsFirstRefused m d e

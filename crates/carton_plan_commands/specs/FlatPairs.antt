@@ -16,7 +16,9 @@ pub record IsJudgedSoFar (m : ℕ) (d : RawDieline) (a b count : ℕ) : Type 0 w
   pub count_is : count ≡ length pairs
   pub bound : count ≤ 24 * a + b
 
--- panel a was judged against the panels after it: all are parted, and so many pairs were judged so far; or the first that isn't
+-- panel a was judged against the panels after it: all are parted, and so many pairs were judged so far; or
+-- the first that isn't
 abbrev pub IsRow : ℕ → RawDieline → ℕ → Row → Type 0
 IsRow m d a (Parted count) = IsJudgedSoFar m d a (length d.faces) count
-IsRow m d a (Unparted b) = AreJudged d a b.0 × ¬ (AreParted m d a b.0) × ((k l : ℕ) → IsBefore (k, l) (a, b.0) → AreJudged d k l → AreParted m d k l)
+IsRow m d a (Unparted b) = AreJudged d a b.0 × ¬ (AreParted m d a b.0)
+    × ((k l : ℕ) → IsBefore (k, l) (a, b.0) → AreJudged d k l → AreParted m d k l)

@@ -3,6 +3,7 @@ use Rattle.std.specs.Prelude.{◌≡◌, ⊤, ℕ, ◌+◌, List, [], ◌∷◌,
 use Rattle.carton_made.specs.Kinds.{kind_of, size_of, name_of}
 use Rattle.carton_made.specs.Made.{dieline_text, job_text}
 use Rattle.carton_search.specs.Paths.{moves_of}
+use Rattle.carton_setup.specs.Commands.{takes_nothing}
 use Rattle.carton_setup.specs.Outcomes.{Outcomes, ◌>>=◌, gives, values}
 use Rattle.carton_setup.specs.Printed.{line, spaced}
 use Rattle.carton_setup.specs.Refusals.{refusal_text}
@@ -11,7 +12,8 @@ use Rattle.carton_setup.specs.declared.refusal.BadFile.{BadFile}
 use Rattle.carton_setup.specs.declared.told.Told.{Told}
 use Rattle.carton_plan_commands.specs.Plan.{start_line, no_plan_line, turns_line, plannings}
 use Rattle.carton_plan_commands.specs.declared.plan.Planned.{Planned}
-use Rattle.carton_plan_commands.specs.declared.plan.Planned.TheVariants.{Found, StartBlocked, NoPath, OutOfTurns}
+use Rattle.carton_plan_commands.specs.declared.plan.Planned.TheVariants.{Found, StartBlocked, NoPath}
+use Rattle.carton_plan_commands.specs.declared.plan.Planned.TheVariants.{OutOfTurns}
 
 -- what comes of planning, or a file that is refused
 abbrev pub Outcome : Type 0
@@ -31,7 +33,9 @@ told_line (Err file) = refusal_text file
 
 -- the line of number k
 abbrev pub made_line : ℕ → Outcome → List ℕ
-made_line k outcome = name_of (kind_of k) ++ (spaced k ++ (codes " size" ++ (spaced (size_of k) ++ (codes " " ++ told_line outcome))))
+made_line k outcome =
+    name_of (kind_of k)
+    ++ (spaced k ++ (codes " size" ++ (spaced (size_of k) ++ (codes " " ++ told_line outcome))))
 
 -- the moves of a plan; there are none where there is no plan
 abbrev pub planned_moves : Planned → ℕ
@@ -69,7 +73,8 @@ AreFirstOutcomes count outcomes = (length outcomes ≡ count) × AreOutcomes 0 o
 
 -- these lines and this total are those of what may come of so many numbers
 abbrev pub AreLinesOf : ℕ → List ℕ → ℕ → Type 0
-AreLinesOf count lines total = (outcomes : List Outcome) × AreFirstOutcomes count outcomes × (lines ≡ lines_from 0 outcomes) × (total ≡ total_of outcomes)
+AreLinesOf count lines total = (outcomes : List Outcome) × AreFirstOutcomes count outcomes
+    × (lines ≡ lines_from 0 outcomes) × (total ≡ total_of outcomes)
 
 -- the text of all: a line for each number, and the total
 abbrev pub outcomes_text : List Outcome → List ℕ
@@ -77,10 +82,12 @@ outcomes_text outcomes = lines_from 0 outcomes ++ (codes "total" ++ line (spaced
 
 -- the text of what may come of so many numbers
 abbrev pub IsMadeText : ℕ → List ℕ → Type 0
-IsMadeText count text = (outcomes : List Outcome) × AreFirstOutcomes count outcomes × (text ≡ outcomes_text outcomes)
+IsMadeText count text = (outcomes : List Outcome) × AreFirstOutcomes count outcomes
+    × (text ≡ outcomes_text outcomes)
 
 -- what `make` may tell
-abbrev pub tells_make : ℕ → Outcomes Told
-tells_make count = do
+abbrev pub tells_make : ℕ → List (List ℕ) → Outcomes Told
+tells_make count files = do
+  nothing ← takes_nothing files
   text ← values (IsMadeText count)
   gives (done text)

@@ -14,9 +14,11 @@ use Rattle.carton_setup.specs.Telling.{done, denied, spent}
 use Rattle.carton_setup.specs.declared.setup.Setup.{Setup}
 use Rattle.carton_setup.specs.declared.told.Told.{Told}
 use Rattle.carton_plan_commands.specs.declared.plan.Planned.{Planned}
-use Rattle.carton_plan_commands.specs.declared.plan.Planned.TheVariants.{Found, StartBlocked, NoPath, OutOfTurns}
+use Rattle.carton_plan_commands.specs.declared.plan.Planned.TheVariants.{Found, StartBlocked, NoPath}
+use Rattle.carton_plan_commands.specs.declared.plan.Planned.TheVariants.{OutOfTurns}
 
--- the line where there is no plan: two panels aren't parted well at the start, no path is clear, or the turns don't go further
+-- the line where there is no plan: two panels aren't parted well at the start, no path is clear, or the turns
+-- don't go further
 abbrev pub start_line : ℕ → ℕ → List ℕ
 start_line a b = codes "start blocked" ++ (spaced a ++ line (spaced b))
 
@@ -33,8 +35,10 @@ told_plan (StartBlocked a b) = denied (start_line a.0 b.0)
 told_plan NoPath = denied no_plan_line
 told_plan (OutOfTurns moves) = spent (turns_line moves)
 
--- what a plan is that is told: it keeps the rules of its text and is sound, all panels that share no crease stay parted on it, its moves are
--- grid steps, no path that is clear by the slack has fewer of them, and where nothing is to be moved it has one state
+-- what a plan is that is told: it keeps the rules of its text and is sound, all panels that share no crease
+-- stay parted on it, its moves are
+-- grid steps, no path that is clear by the slack has fewer of them, and where nothing is to be moved it has
+-- one state
 pub record IsBest (s : Setup) (plan : Plan) : Type 0 where
   pub rules : IsPlan plan
   pub sound : IsSound s.carton s.task plan
@@ -70,5 +74,6 @@ plannings files = do
 -- what `plan` may tell
 abbrev pub tells_plan : List (List ℕ) → Outcomes Told
 tells_plan files = do
-  answer ← plannings files
+  s ← setups files
+  answer ← values (IsPlanned s)
   gives (told_plan answer)

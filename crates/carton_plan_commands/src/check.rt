@@ -1,11 +1,11 @@
 ghost use Rattle.std.specs.Prelude.{◌≡◌, string_bytes, IfOk};
-ghost use Rattle.carton_setup.specs.Outcomes.{IsOutcome};
 ghost use Rattle.carton_setup.specs.Printed.{line};
-ghost use Rattle.carton_plan_commands.specs.Check.{blocked_text as blocked_text_of, checked_text as checked_text_of, told_check as told_check_of, tells_check};
+ghost use Rattle.carton_plan_commands.specs.Check.{blocked_text as blocked_text_of};
+ghost use Rattle.carton_plan_commands.specs.Check.{checked_text as checked_text_of};
 
-use carton_base::{Listed, Moment, PanelId};
+use carton_base::{Moment, OutOfMemory, PanelId};
 use carton_check::{Checked, check};
-use carton_setup::{Refusal, Told, moment_text, plan_in, set_up};
+use carton_setup::{Command, Proposal, Refusal, Told, moment_text};
 use std::alloc::{AllocError, Global};
 
 // The text of a move in which two panels aren't parted well, with its line feed.
@@ -40,27 +40,39 @@ pub fn checked_text(alloc: Global, stride: u8, checked: Checked) -> Result<Strin
     }
 }
 
-// That text, and done where the plan holds.
-fn told_check(alloc: Global, stride: u8, checked: Checked) -> Result<Told, AllocError>
-    ensures { IfOk result (λ told. told ≡ told_check_of stride checked) }
-{
-    let text = checked_text(alloc, stride, checked)?.into_bytes();
-    match checked {
-        Checked::Holds(_) => Ok(Told::done(text)),
-        Checked::WrongCreases
-        | Checked::WrongStart
-        | Checked::WrongEnd
-        | Checked::NotOneStop(_)
-        | Checked::Blocked { .. } => Ok(Told::denied(text)),
-    }
-}
+/// `check`: whether a plan does what a task asks and keeps the panels apart, or its first fault.
+#[derive(Clone, Copy, Drop)]
+pub struct CheckCommand;
 
-/// What `check` tells for the bytes of its files.
-pub fn tell_check(alloc: Global, files: &[Listed<u8>]) -> Result<Told, Refusal>
-    ensures { IsOutcome (tells_check files.now) result }
-{
-    let setup = set_up(alloc, files)?;
-    let plan = plan_in(alloc, files)?;
-    let checked = check(&setup.carton, &setup.task, &plan);
-    Ok(told_check(alloc, setup.task.stride, checked)?)
+impl Command for CheckCommand {
+    type Given = Proposal;
+
+    type Found = Checked;
+
+    ghost use Rattle.std.specs.Prelude.{⊤};
+    ghost use Rattle.carton_plan_commands.specs.Check.{IsCheckOf, told_check};
+    ghost use Rattle.carton_setup.specs.Outcomes.{values};
+
+    ghost finds = { λ c p. values (IsCheckOf p) };
+
+    ghost is_tellable = { λ checked. ⊤ };
+
+    ghost told = { λ c p checked. told_check p.setup.task.stride checked };
+
+    fn find(&self, _alloc: Global, given: &Proposal) -> Result<Checked, Refusal> {
+        let Proposal { setup, plan } = given;
+        Ok(check(&setup.carton, &setup.task, plan))
+    }
+
+    fn tell(&self, alloc: Global, given: &Proposal, found: Checked) -> Result<Told, OutOfMemory> {
+        let text = checked_text(alloc, given.setup.task.stride, found)?.into_bytes();
+        match found {
+            Checked::Holds(_) => Ok(Told::done(text)),
+            Checked::WrongCreases
+            | Checked::WrongStart
+            | Checked::WrongEnd
+            | Checked::NotOneStop(_)
+            | Checked::Blocked { .. } => Ok(Told::denied(text)),
+        }
+    }
 }

@@ -1,16 +1,13 @@
 ghost use Rattle.std.specs.Prelude.{◌≡◌, ◌++◌, flat_map, string_bytes, OnOk, IfOk};
-ghost use Rattle.carton_text.specs.PlanRules.{IsPlan};
-ghost use Rattle.carton_setup.specs.Outcomes.{IsOutcome, values};
 ghost use Rattle.carton_setup.specs.Printed.{line};
-ghost use Rattle.carton_setup.specs.Setups.{IsRight};
-ghost use Rattle.carton_plan_commands.specs.Clearance.{tight_text, row_line as row_line_of, rows_text as rows_text_of, told_report as told_report_of, IsReport, tells_clearance};
+ghost use Rattle.carton_plan_commands.specs.Clearance.{tight_text, row_line as row_line_of};
+ghost use Rattle.carton_plan_commands.specs.Clearance.{rows_text as rows_text_of};
 
 use crate::check::checked_text;
-use carton_base::{Listed, Moment, PanelId};
+use carton_base::{Listed, Moment, OutOfMemory, PanelId};
 use carton_check::Checked;
 use carton_report::{Cleared, Row, clearances};
-use carton_setup::{Refusal, Setup, Told, moment_text, plan_in, set_up};
-use carton_text::Plan;
+use carton_setup::{Command, Proposal, Refusal, Told, moment_text};
 use std::alloc::{AllocError, Global};
 
 /// The report on a plan: a row for each move of a plan that holds, in order, or what its check says of
@@ -75,38 +72,41 @@ fn rows_text(alloc: Global, rows: &[Row]) -> Result<String, AllocError>
     Ok(text)
 }
 
-// What is told of a report, for a task of this stride, in stops.
-fn told_report(alloc: Global, stride: u8, report: &Report) -> Result<Told, AllocError>
-    ensures { IfOk result (λ told. told ≡ told_report_of stride report.now) }
-{
-    match report {
-        Report::Rows(rows) => Ok(Told::done(rows_text(alloc, rows.as_slice())?.into_bytes())),
-        Report::Fails(checked) => {
-            let text = checked_text(alloc, stride, *checked)?;
-            Ok(Told::denied(text.into_bytes()))
+/// `clearance`: how far the panels stay parted in each move of a plan.
+#[derive(Clone, Copy, Drop)]
+pub struct ClearanceCommand;
+
+impl Command for ClearanceCommand {
+    type Given = Proposal;
+
+    type Found = Report;
+
+    ghost use Rattle.std.specs.Prelude.{⊤};
+    ghost use Rattle.carton_plan_commands.specs.Clearance.{IsReport, told_report};
+    ghost use Rattle.carton_setup.specs.Outcomes.{values};
+
+    ghost finds = { λ c p. values (IsReport p) };
+
+    ghost is_tellable = { λ report. ⊤ };
+
+    ghost told = { λ c p report. told_report p.setup.task.stride report };
+
+    fn find(&self, alloc: Global, given: &Proposal) -> Result<Report, Refusal> {
+        let Proposal { setup, plan } = given;
+        match clearances(alloc, &setup.carton, &setup.task, plan) {
+            Cleared::Rows(rows) => Ok(Report::Rows(rows)),
+            Cleared::Fails(checked) => Ok(Report::Fails(checked)),
+            Cleared::Memory => Err(Refusal::NoMemory),
         }
     }
-}
 
-// The report for a carton, a task and a plan.
-fn report_on(alloc: Global, setup: &Setup, plan: &Plan) -> Result<Report, Refusal>
-    requires right { IsRight setup.now }
-    requires plan { IsPlan plan.now }
-    ensures { IsOutcome (values (IsReport setup.now plan.now)) result }
-{
-    match clearances(alloc, &setup.carton, &setup.task, plan) {
-        Cleared::Rows(rows) => Ok(Report::Rows(rows)),
-        Cleared::Fails(checked) => Ok(Report::Fails(checked)),
-        Cleared::Memory => Err(Refusal::NoMemory),
+    fn tell(&self, alloc: Global, given: &Proposal, found: Report) -> Result<Told, OutOfMemory> {
+        match found {
+            Report::Rows(rows) => Ok(Told::done(rows_text(alloc, rows.as_slice())?.into_bytes())),
+            Report::Fails(checked) => {
+                let text = checked_text(alloc, given.setup.task.stride, checked)?;
+                Ok(Told::denied(text.into_bytes()))
+            }
+        }
     }
-}
-
-/// What `clearance` tells for the bytes of its files.
-pub fn tell_clearance(alloc: Global, files: &[Listed<u8>]) -> Result<Told, Refusal>
-    ensures { IsOutcome (tells_clearance files.now) result }
-{
-    let setup = set_up(alloc, files)?;
-    let plan = plan_in(alloc, files)?;
-    let report = report_on(alloc, &setup, &plan)?;
-    Ok(told_report(alloc, setup.task.stride, &report)?)
 }

@@ -1,15 +1,16 @@
 ghost use Rattle.std.specs.Prelude.{◌≡◌, ◌↔◌, ◌+◌, ◌<◌, ◌≤◌, length, string_bytes, IfOk, None, false};
+ghost use Rattle.carton_base.specs.declared.limits.TheConstants.{WIDEST_MARGIN};
 ghost use Rattle.carton_model.specs.Dielines.{IsDieline};
 ghost use Rattle.carton_panels.specs.Creases.{IsCommonCreaseAnswer};
 ghost use Rattle.carton_panels.specs.DielinePanels.{AreShapes};
 ghost use Rattle.carton_panels.specs.Panels.{face_at};
 ghost use Rattle.carton_setup.specs.Outcomes.{IsOutcome};
-ghost use Rattle.carton_plan_commands.specs.Flat.{told_verdict as told_verdict_of, IsVerdict, verdicts, tells_flat};
+ghost use Rattle.carton_plan_commands.specs.Flat.{told_verdict as told_verdict_of, IsVerdict, verdicts};
 ghost use Rattle.carton_plan_commands.specs.FlatPairs.{IsJudgedSoFar, IsRow};
 
-use carton_base::{Listed, PanelId, RawDieline, WIDEST_MARGIN};
+use carton_base::{OutOfMemory, PanelId, RawDieline};
 use carton_panels::{PanelShape, common_crease, flat_parted, panels};
-use carton_setup::{Refusal, Told, accept, dieline_in};
+use carton_setup::{Command, Refusal, Told, accept};
 use carton_words::FileKind;
 use std::alloc::{AllocError, Global};
 
@@ -32,23 +33,13 @@ fn verdict_text(alloc: Global, verdict: FlatVerdict) -> Result<String, AllocErro
     Ok(text)
 }
 
-// What is told of a verdict.
-fn told_verdict(alloc: Global, verdict: FlatVerdict) -> Result<Told, AllocError>
-    ensures { IfOk result (λ told. told ≡ told_verdict_of verdict) }
-{
-    let text = verdict_text(alloc, verdict)?.into_bytes();
-    match verdict {
-        FlatVerdict::Clear(_) => Ok(Told::done(text)),
-        FlatVerdict::Blocked(_, _) => Ok(Told::denied(text)),
-    }
-}
-
 // Whether two panels share a crease.
 fn share_crease(raw: &RawDieline, a: PanelId, b: PanelId) -> bool
     requires valid { IsDieline raw.now }
     requires first { a.0 < length raw.now.faces }
     requires second { b.0 < length raw.now.faces }
-    ensures { (result ≡ false) ↔ IsCommonCreaseAnswer raw.now (face_at raw.now a.0).corners (face_at raw.now b.0).corners None }
+    ensures { (result ≡ false) ↔ IsCommonCreaseAnswer raw.now (face_at raw.now a.0).corners
+        (face_at raw.now b.0).corners None }
 {
     match common_crease(raw, a, b) {
         Some(_) => true,
@@ -114,12 +105,43 @@ fn verdict_on(alloc: Global, raw: &RawDieline, margin: u16) -> Result<FlatVerdic
     }
 }
 
-/// What `flat` tells for the bytes of its files.
-pub fn tell_flat(alloc: Global, files: &[Listed<u8>], margin: u16) -> Result<Told, Refusal>
-    requires { margin ≤ WIDEST_MARGIN }
-    ensures { IsOutcome (tells_flat margin files.now) result }
-{
-    let raw = dieline_in(alloc, files)?;
-    let verdict = verdict_on(alloc, &raw, margin)?;
-    Ok(told_verdict(alloc, verdict)?)
+/// `flat`: whether the shrunk panels of a flat dieline that share no crease are parted.
+#[derive(Clone, Copy, Drop)]
+pub struct FlatCommand {
+    /// By how much panels shrink on each side, in dieline units.
+    pub margin: u16,
+
+    ghost narrow: { margin ≤ WIDEST_MARGIN },
+}
+
+impl Command for FlatCommand {
+    type Given = RawDieline;
+
+    type Found = FlatVerdict;
+
+    ghost use Rattle.std.specs.Prelude.{⊤};
+    ghost use Rattle.carton_plan_commands.specs.Flat.{told_verdict, verdicts};
+
+    ghost finds = { λ c d. verdicts c.margin d };
+
+    ghost is_tellable = { λ verdict. ⊤ };
+
+    ghost told = { λ c d verdict. told_verdict verdict };
+
+    fn find(&self, alloc: Global, given: &RawDieline) -> Result<FlatVerdict, Refusal> {
+        verdict_on(alloc, given, self.margin)
+    }
+
+    fn tell(
+        &self,
+        alloc: Global,
+        _given: &RawDieline,
+        found: FlatVerdict,
+    ) -> Result<Told, OutOfMemory> {
+        let text = verdict_text(alloc, found)?.into_bytes();
+        match found {
+            FlatVerdict::Clear(_) => Ok(Told::done(text)),
+            FlatVerdict::Blocked(_, _) => Ok(Told::denied(text)),
+        }
+    }
 }

@@ -1,5 +1,5 @@
-//! What the commands tell that look at a dieline and a job: whether the carton is flat apart, where its
-//! panels stand, plans, what is to be said of a plan, and made cartons.
+//! The commands that look at a dieline and a job: whether the carton is flat apart, where its panels
+//! stand, plans, what is to be said of a plan, and made cartons.
 #![tactic(auto)]
 
 mod check;
@@ -9,9 +9,9 @@ mod make;
 mod plan;
 mod pose;
 
-pub use check::{checked_text, tell_check};
-pub use clearance::tell_clearance;
-pub use flat::tell_flat;
-pub use make::tell_make;
-pub use plan::tell_plan;
-pub use pose::tell_pose;
+pub use check::{CheckCommand, checked_text};
+pub use clearance::ClearanceCommand;
+pub use flat::FlatCommand;
+pub use make::MakeCommand;
+pub use plan::PlanCommand;
+pub use pose::PoseCommand;

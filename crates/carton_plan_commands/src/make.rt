@@ -1,15 +1,18 @@
 ghost use Rattle.std.specs.Prelude.{◌≡◌, ◌<◌, ◌≤◌, IfOk, string_bytes};
 ghost use Rattle.carton_base.specs.declared.limits.TheConstants.{MOST_STATES};
+ghost use Rattle.carton_words.specs.declared.givens.TheConstants.{MOST_MADE};
 ghost use Rattle.carton_search.specs.Paths.{moves_of as moves_of_states};
-ghost use Rattle.carton_setup.specs.Outcomes.{IsOutcome};
 ghost use Rattle.carton_plan_commands.specs.Plan.{plannings};
-ghost use Rattle.carton_plan_commands.specs.Make.{made_files as made_files_of, planned_line as planned_line_of, told_line as told_line_of, made_line as made_line_of, planned_moves as planned_moves_of, moves_in as moves_in_of, AreLinesOf, tells_make};
+ghost use Rattle.carton_plan_commands.specs.Make.{made_files as made_files_of};
+ghost use Rattle.carton_plan_commands.specs.Make.{planned_line as planned_line_of};
+ghost use Rattle.carton_plan_commands.specs.Make.{told_line as told_line_of, made_line as made_line_of};
+ghost use Rattle.carton_plan_commands.specs.Make.{planned_moves as planned_moves_of};
+ghost use Rattle.carton_plan_commands.specs.Make.{moves_in as moves_in_of, AreLinesOf};
 
-use crate::plan::{Planned, no_plan_line, plan_for, start_line, turns_line};
+use crate::plan::{PlanCommand, Planned, no_plan_line, start_line, turns_line};
 use carton_base::{Listed, OutOfMemory, State};
 use carton_made::{kind_of, made_dieline, made_job, size_of};
-use carton_setup::{BadFile, Refusal, Told, refusal_text};
-use carton_words::MOST_MADE;
+use carton_setup::{BadFile, Command, Ending, Nothing, Refusal, Told, find, refusal_text};
 use std::alloc::{AllocError, Global};
 
 // The files that are made of number k, a dieline and a job.
@@ -29,7 +32,7 @@ fn outcome_at(alloc: Global, k: u32) -> Result<Result<Planned, BadFile>, OutOfMe
     ensures few { IfOk result (λ outcome. moves_in_of outcome ≤ MOST_STATES) }
 {
     let files = made_files(alloc, k)?;
-    match plan_for(alloc, &files) {
+    match find(alloc, &PlanCommand, &files) {
         Ok(answer) => Ok(Ok(answer)),
         Err(Refusal::Bad(file)) => Ok(Err(file)),
         Err(Refusal::NoMemory) => Err(OutOfMemory),
@@ -126,13 +129,46 @@ fn lines_of(alloc: Global, count: u32) -> Result<(Vec<u8>, u32), OutOfMemory>
     Ok((lines, total))
 }
 
-/// What `make` tells for so many numbers.
-pub fn tell_make(alloc: Global, count: u16) -> Result<Told, Refusal>
-    requires { count ≤ MOST_MADE }
-    ensures { IsOutcome (tells_make count) result }
-{
-    let (mut text, total) = lines_of(alloc, u32::from(count))?;
-    let last = format!(in alloc; "total {total}\n")?;
-    text.extend_from_slice(last.as_bytes())?;
-    Ok(Told::done(text))
+/// `make`: what comes of planning for so many made cartons.
+#[derive(Clone, Copy, Drop)]
+pub struct MakeCommand {
+    pub count: u16,
+
+    ghost few: { count ≤ MOST_MADE },
+}
+
+impl Command for MakeCommand {
+    type Given = Nothing;
+
+    type Found = Listed<u8>;
+
+    ghost use Rattle.std.specs.Prelude.{⊤};
+    ghost use Rattle.carton_plan_commands.specs.Make.{IsMadeText};
+    ghost use Rattle.carton_setup.specs.Outcomes.{values};
+    ghost use Rattle.carton_setup.specs.Telling.{done};
+
+    ghost finds = { λ c nothing. values (IsMadeText c.count) };
+
+    ghost is_tellable = { λ text. ⊤ };
+
+    ghost told = { λ c nothing text. done text };
+
+    fn find(&self, alloc: Global, _given: &Nothing) -> Result<Listed<u8>, Refusal> {
+        let (mut text, total) = lines_of(alloc, u32::from(self.count))?;
+        let last = format!(in alloc; "total {total}\n")?;
+        text.extend_from_slice(last.as_bytes())?;
+        Ok(Listed::from_vec(text))
+    }
+
+    fn tell(
+        &self,
+        _alloc: Global,
+        _given: &Nothing,
+        found: Listed<u8>,
+    ) -> Result<Told, OutOfMemory> {
+        Ok(Told {
+            text: found,
+            ending: Ending::Done,
+        })
+    }
 }

@@ -3,12 +3,14 @@ ghost use Rattle.carton_search.specs.Ends.{IsEnd};
 ghost use Rattle.carton_text.specs.TaskRules.{IsTask};
 ghost use Rattle.carton_setup.specs.Outcomes.{IsOutcome, values};
 ghost use Rattle.carton_setup.specs.Setups.{IsRight};
-ghost use Rattle.carton_plan_commands.specs.Plan.{start_line as start_line_of, no_plan_line as no_plan_line_of, turns_line as turns_line_of, told_plan as told_plan_of, IsPlanned, IsWritable, plannings, tells_plan};
+ghost use Rattle.carton_plan_commands.specs.Plan.{start_line as start_line_of};
+ghost use Rattle.carton_plan_commands.specs.Plan.{no_plan_line as no_plan_line_of};
+ghost use Rattle.carton_plan_commands.specs.Plan.{turns_line as turns_line_of, IsPlanned, IsWritable};
 
-use carton_base::{Listed, OutOfMemory, PanelId};
+use carton_base::{OutOfMemory, PanelId};
 use carton_judge::{Judge, RangeJudge};
 use carton_search::{SearchEnd, search};
-use carton_setup::{Refusal, Setup, Told, set_up};
+use carton_setup::{Command, Refusal, Setup, Told};
 use carton_text::{Plan, Task, write_plan};
 use std::alloc::{AllocError, Global};
 
@@ -41,21 +43,6 @@ pub fn turns_line(alloc: Global, moves: u32) -> Result<String, AllocError>
     ensures { IfOk result (λ text. string_bytes text ≡ turns_line_of moves) }
 {
     format!(in alloc; "out of turns {moves}\n")
-}
-
-// What is told of what came of planning.
-fn told_plan(alloc: Global, answer: &Planned) -> Result<Told, OutOfMemory>
-    requires { IsWritable answer.now }
-    ensures { IfOk result (λ told. told ≡ told_plan_of answer.now) }
-{
-    match answer {
-        Planned::Found(plan) => Ok(Told::done(write_plan(alloc, plan)?)),
-        Planned::StartBlocked { a, b } => {
-            Ok(Told::denied(start_line(alloc, *a, *b)?.into_bytes()))
-        }
-        Planned::NoPath => Ok(Told::denied(no_plan_line(alloc)?.into_bytes())),
-        Planned::OutOfTurns { moves } => Ok(Told::spent(turns_line(alloc, *moves)?.into_bytes())),
-    }
 }
 
 // How the search for the task ends past a judge of its carton.
@@ -93,19 +80,38 @@ fn planned_for(alloc: Global, setup: &Setup) -> Result<Planned, Refusal>
     }
 }
 
-/// What comes of planning for the bytes of the files, a dieline and a job.
-pub fn plan_for(alloc: Global, files: &[Listed<u8>]) -> Result<Planned, Refusal>
-    ensures planned { IsOutcome (plannings files.now) result }
-    ensures writable { IfOk result IsWritable }
-{
-    let setup = set_up(alloc, files)?;
-    planned_for(alloc, &setup)
-}
+/// `plan`: a plan with fewest moves, or why there is none.
+#[derive(Clone, Copy, Drop)]
+pub struct PlanCommand;
 
-/// What `plan` tells for the bytes of its files.
-pub fn tell_plan(alloc: Global, files: &[Listed<u8>]) -> Result<Told, Refusal>
-    ensures { IsOutcome (tells_plan files.now) result }
-{
-    let answer = plan_for(alloc, files)?;
-    Ok(told_plan(alloc, &answer)?)
+impl Command for PlanCommand {
+    type Given = Setup;
+
+    type Found = Planned;
+
+    ghost use Rattle.carton_plan_commands.specs.Plan.{told_plan, IsPlanned, IsWritable};
+    ghost use Rattle.carton_setup.specs.Outcomes.{values};
+
+    ghost finds = { λ c s. values (IsPlanned s) };
+
+    ghost is_tellable = { IsWritable };
+
+    ghost told = { λ c s answer. told_plan answer };
+
+    fn find(&self, alloc: Global, given: &Setup) -> Result<Planned, Refusal> {
+        planned_for(alloc, given)
+    }
+
+    fn tell(&self, alloc: Global, _given: &Setup, found: Planned) -> Result<Told, OutOfMemory> {
+        match found {
+            Planned::Found(plan) => Ok(Told::done(write_plan(alloc, &plan)?)),
+            Planned::StartBlocked { a, b } => {
+                Ok(Told::denied(start_line(alloc, a, b)?.into_bytes()))
+            }
+            Planned::NoPath => Ok(Told::denied(no_plan_line(alloc)?.into_bytes())),
+            Planned::OutOfTurns { moves } => {
+                Ok(Told::spent(turns_line(alloc, moves)?.into_bytes()))
+            }
+        }
+    }
 }

@@ -9,7 +9,8 @@ pub here : (q : Waiting) (n : ℕ) (x : Option ℕ) → n < nodes_of q → prior
 here q n x l = at_set q.priorities n x l
 
 -- all other entries stay
-pub elsewhere : (q : Waiting) (n : ℕ) (x : Option ℕ) (m : ℕ) → (m ≡ n → ⊥) → priority_of (with_entry q n x) m ≡ priority_of q m
+pub elsewhere : (q : Waiting) (n : ℕ) (x : Option ℕ) (m : ℕ) → (m ≡ n → ⊥) → priority_of (with_entry q n x) m
+    ≡ priority_of q m
 elsewhere q n x m o = at_others q.priorities n x m o
 
 -- a node that waits is in range

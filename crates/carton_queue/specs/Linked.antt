@@ -1,19 +1,23 @@
--- How nodes are linked. The first slots are the nodes; after them each bucket has one slot, which is always in its ring.
-use Rattle.std.specs.Prelude.{◌≡◌, ℕ, zero, suc, ◌+◌, ◌<◌, ◌≤◌, ◌^◌, List, [], ◌∷◌, Option, Some, None, length, ◌⊎◌}
+-- How nodes are linked. The first slots are the nodes; after them each bucket has one slot, which is always
+-- in its ring.
+use Rattle.std.specs.Prelude.{◌≡◌, ℕ, zero, suc, ◌+◌, ◌<◌, ◌≤◌, ◌^◌, List, [], ◌∷◌, Option, Some, None}
+use Rattle.std.specs.Prelude.{length, ◌⊎◌}
 use Rattle.carton_queue.specs.Waits.{priority_at}
 use Rattle.carton_queue.specs.declared.links.Link.{Link}
 
+-- a part of the link of slot i
+abbrev pub part_of : (Link → ℕ) → List Link → ℕ → ℕ
+part_of part [] i = 0
+part_of part (x ∷ xs) zero = part x
+part_of part (x ∷ xs) (suc i) = part_of part xs i
+
 -- the slot after slot i in its ring
 abbrev pub next_of : List Link → ℕ → ℕ
-next_of [] i = 0
-next_of (x ∷ xs) zero = x.next
-next_of (x ∷ xs) (suc i) = next_of xs i
+next_of = part_of (λ x. x.next)
 
 -- the slot before slot i in its ring
 abbrev pub previous_of : List Link → ℕ → ℕ
-previous_of [] i = 0
-previous_of (x ∷ xs) zero = x.previous
-previous_of (x ∷ xs) (suc i) = previous_of xs i
+previous_of = part_of (λ x. x.previous)
 
 -- the value at one place is set, and all others stay
 pub record IsSet (old new : ℕ → ℕ) (at to : ℕ) : Type 0 where
@@ -35,7 +39,8 @@ pub record IsWay (nodes buckets : ℕ) (at : ℕ → Option ℕ) (go come : ℕ 
   pub goes : (b i : ℕ) → b < buckets → InRing nodes at b i → InRing nodes at b (go i)
   pub back : (b i : ℕ) → b < buckets → InRing nodes at b i → come (go i) ≡ i
 
--- next and previous lead around the rings, opposite ways, and ranks that fall from node to node show that each ring
+-- next and previous lead around the rings, opposite ways, and ranks that fall from node to node show that
+-- each ring
 -- comes back to its bucket's slot
 pub record IsRing (nodes buckets : ℕ) (at : ℕ → Option ℕ) (next previous : ℕ → ℕ) : Type 0 where
   pub within : (n p : ℕ) → at n ≡ Some p → n < nodes

@@ -1,4 +1,5 @@
--- What callers see of a queue: which nodes wait with which priority, and the two numbers that it was made with.
+-- What callers see of a queue: which nodes wait with which priority, and the two numbers that it was made
+-- with.
 use Rattle.std.specs.Prelude.{◌≡◌, ℕ, zero, suc, ◌≤◌, List, [], ◌∷◌, Option, Some, None, length, slice_set}
 
 -- for each node its priority, or None where it doesn't wait, and the number that each priority is below

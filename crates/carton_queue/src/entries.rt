@@ -6,7 +6,8 @@ use carton_base::OutOfMemory;
 use std::alloc::Global;
 use std::marker::Model;
 
-// A list of a fixed length whose entries are blank until they are set. It takes the memory for all of them at once,
+// A list of a fixed length whose entries are blank until they are set. It takes the memory for all
+// of them at once,
 // and writes those below the greatest place that was ever set; contracts see them all.
 #[derive(Drop)]
 pub struct Entries<T> {

@@ -86,7 +86,8 @@ impl BucketQueue {
     /// such nodes it is isn't promised.
     pub fn take_least(&mut self) -> Option<(u32, u32)>
         ensures least { MatchOption result (IsEmpty self.old) (λ r. IsLeast self.old r.0 r.1) }
-        ensures rest { MatchOption result (self.new ≡ self.old) (λ r. self.new ≡ with_entry self.old r.0 None) }
+        ensures rest { MatchOption result (self.new ≡ self.old)
+            (λ r. self.new ≡ with_entry self.old r.0 None) }
     {
         let Some((node, priority)) = self.rings.first_from(self.least) else {
             self.least = self.rings.buckets;

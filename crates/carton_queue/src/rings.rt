@@ -1,4 +1,5 @@
-ghost use Rattle.std.specs.Prelude.{◌≡◌, ◌+◌, ◌<◌, ◌≤◌, ◌^◌, ℕ, Some, None, MatchOption, IfOk, length, slice_set};
+ghost use Rattle.std.specs.Prelude.{◌≡◌, ◌+◌, ◌<◌, ◌≤◌, ◌^◌, ℕ, Some, None, MatchOption, IfOk, length};
+ghost use Rattle.std.specs.Prelude.{slice_set};
 ghost use Rattle.carton_queue.specs.Waits.{priority_at};
 ghost use Rattle.carton_queue.specs.Linked.{next_of, previous_of, IsSet, AreSet, IsLinked, IsFirst};
 
@@ -25,7 +26,8 @@ fn insert_after(links: &mut Links, node: usize, place: usize)
     requires apart_head { node ≡ next_of links.old place → ⊥ }
     ensures len { length links.new ≡ length links.old }
     ensures next { AreSet (next_of links.old) (next_of links.new) node (next_of links.old place) place node }
-    ensures previous { AreSet (previous_of links.old) (previous_of links.new) node place (next_of links.old place) node }
+    ensures previous { AreSet (previous_of links.old) (previous_of links.new) node place
+        (next_of links.old place) node }
 {
     let head = next_at(links, place);
     set_next(links, node, head);
@@ -40,8 +42,10 @@ fn unlink(links: &mut Links, node: usize)
     requires next { next_of links.old node < length links.old }
     requires previous { previous_of links.old node < length links.old }
     ensures len { length links.new ≡ length links.old }
-    ensures next { IsSet (next_of links.old) (next_of links.new) (previous_of links.old node) (next_of links.old node) }
-    ensures previous { IsSet (previous_of links.old) (previous_of links.new) (next_of links.old node) (previous_of links.old node) }
+    ensures next { IsSet (next_of links.old) (next_of links.new) (previous_of links.old node)
+        (next_of links.old node) }
+    ensures previous { IsSet (previous_of links.old) (previous_of links.new) (next_of links.old node)
+        (previous_of links.old node) }
 {
     let next = next_at(links, node);
     let previous = previous_at(links, node);

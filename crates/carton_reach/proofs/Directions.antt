@@ -1,5 +1,6 @@
 -- Each direction is one of the 13 axes or the negation of one, and each axis is a direction.
-use Rattle.std.proofs.Common.{◌≡◌, ℕ, zero, suc, ◌<◌, [], ◌∷◌, refl, sym, ◌∙◌, subst, arith, ℤ, pos, negsuc, neg_ℤ, ◌⊎◌, inl, inr}
+use Rattle.std.proofs.Common.{◌≡◌, ℕ, zero, suc, ◌<◌, [], ◌∷◌, refl, sym, ◌∙◌, subst, arith, ℤ, pos, negsuc}
+use Rattle.std.proofs.Common.{neg_ℤ, ◌⊎◌, inl, inr}
 use Rattle.std.proofs.lemmas.Int.{ints}
 use Rattle.carton_base.specs.Directions.{IsSign, IsDirection}
 use Rattle.carton_reach.specs.Axes.{axis_at}
@@ -28,9 +29,11 @@ sign_of (negsuc (suc n)) h = absurd (omega (arith, ints, h.from))
 
 -- the direction is one of the axes or the negation of one
 abbrev pub Listed : ℤ → ℤ → ℤ → Type 0
-Listed u v t = (a : ℕ) × (a < 13) × ((axis_at a ≡ u ∷ v ∷ t ∷ []) ⊎ (axis_at a ≡ neg_ℤ u ∷ neg_ℤ v ∷ neg_ℤ t ∷ []))
+Listed u v t =
+    (a : ℕ) × (a < 13) × ((axis_at a ≡ u ∷ v ∷ t ∷ []) ⊎ (axis_at a ≡ neg_ℤ u ∷ neg_ℤ v ∷ neg_ℤ t ∷ []))
 
-stands : (a b c : Sign) → ¬ ((value a ≡ pos 0) × (value b ≡ pos 0) × (value c ≡ pos 0)) → Listed (value a) (value b) (value c)
+stands : (a b c : Sign) → ¬ ((value a ≡ pos 0) × (value b ≡ pos 0) × (value c ≡ pos 0))
+    → Listed (value a) (value b) (value c)
 stands minus minus minus n = (12, omega arith, inr refl)
 stands minus minus nought n = (11, omega arith, inr refl)
 stands minus minus plus n = (10, omega arith, inr refl)
@@ -65,7 +68,8 @@ listed u v t d =
     let b = sign_of v d.y in
     let c = sign_of t d.z in
     let s = stands a.0 b.0 c.0 (λ n. d.some (sym a.1 ∙ n.0, sym b.1 ∙ n.1, sym c.1 ∙ n.2)) in
-    subst (λ z. Listed u v z) c.1 (subst (λ y. Listed u y (value c.0)) b.1 (subst (λ x. Listed x (value b.0) (value c.0)) a.1 s))
+    subst (λ z. Listed u v z) c.1
+    (subst (λ y. Listed u y (value c.0)) b.1 (subst (λ x. Listed x (value b.0) (value c.0)) a.1 s))
 
 -- an axis, its parts, and that both it and its negation are directions
 pub record IsAxis (a : ℕ) : Type 0 where
@@ -76,9 +80,11 @@ pub record IsAxis (a : ℕ) : Type 0 where
   pub forward : IsDirection u v t
   pub back : IsDirection (neg_ℤ u) (neg_ℤ v) (neg_ℤ t)
 
-one : (a : ℕ) (x y z : Sign) → axis_at a ≡ value x ∷ value y ∷ value z ∷ [] → ¬ ((value x ≡ pos 0) × (value y ≡ pos 0) × (value z ≡ pos 0)) → IsAxis a
+one : (a : ℕ) (x y z : Sign) → axis_at a ≡ value x ∷ value y ∷ value z ∷ []
+    → ¬ ((value x ≡ pos 0) × (value y ≡ pos 0) × (value z ≡ pos 0)) → IsAxis a
 one a x y z e n =
-    let turned : (s : Sign) → IsSign (neg_ℤ (value s)) = λ s. let h = is_sign s in record { from = omega (arith, ints, h.upto, h.from); upto = omega (arith, ints, h.from, h.upto) } in
+    let turned : (s : Sign) → IsSign (neg_ℤ (value s)) = λ s. let h = is_sign s in
+    record { from = omega (arith, ints, h.upto, h.from); upto = omega (arith, ints, h.from, h.upto) } in
     let nought : (c : ℤ) → neg_ℤ c ≡ pos 0 → c ≡ pos 0 = λ c h. omega (arith, ints, h) in
     record {
       u = value x;
@@ -86,7 +92,12 @@ one a x y z e n =
       t = value z;
       same = e;
       forward = record { x = is_sign x; y = is_sign y; z = is_sign z; some = n };
-      back = record { x = turned x; y = turned y; z = turned z; some = λ h. n (nought (value x) h.0, nought (value y) h.1, nought (value z) h.2) };
+      back = record {
+        x = turned x;
+        y = turned y;
+        z = turned z;
+        some = λ h. n (nought (value x) h.0, nought (value y) h.1, nought (value z) h.2);
+      };
     }
 
 up : ¬ (pos 1 ≡ pos 0)
@@ -102,8 +113,13 @@ axis_is (suc (suc (suc (suc (suc zero))))) h = one 5 plus minus nought refl (λ 
 axis_is (suc (suc (suc (suc (suc (suc zero)))))) h = one 6 plus minus plus refl (λ n. up n.0)
 axis_is (suc (suc (suc (suc (suc (suc (suc zero))))))) h = one 7 plus nought minus refl (λ n. up n.0)
 axis_is (suc (suc (suc (suc (suc (suc (suc (suc zero)))))))) h = one 8 plus nought nought refl (λ n. up n.0)
-axis_is (suc (suc (suc (suc (suc (suc (suc (suc (suc zero))))))))) h = one 9 plus nought plus refl (λ n. up n.0)
-axis_is (suc (suc (suc (suc (suc (suc (suc (suc (suc (suc zero)))))))))) h = one 10 plus plus minus refl (λ n. up n.0)
-axis_is (suc (suc (suc (suc (suc (suc (suc (suc (suc (suc (suc zero))))))))))) h = one 11 plus plus nought refl (λ n. up n.0)
-axis_is (suc (suc (suc (suc (suc (suc (suc (suc (suc (suc (suc (suc zero)))))))))))) h = one 12 plus plus plus refl (λ n. up n.0)
-axis_is (suc (suc (suc (suc (suc (suc (suc (suc (suc (suc (suc (suc (suc n))))))))))))) h = absurd (omega (arith, h))
+axis_is (suc (suc (suc (suc (suc (suc (suc (suc (suc zero))))))))) h =
+    one 9 plus nought plus refl (λ n. up n.0)
+axis_is (suc (suc (suc (suc (suc (suc (suc (suc (suc (suc zero)))))))))) h =
+    one 10 plus plus minus refl (λ n. up n.0)
+axis_is (suc (suc (suc (suc (suc (suc (suc (suc (suc (suc (suc zero))))))))))) h =
+    one 11 plus plus nought refl (λ n. up n.0)
+axis_is (suc (suc (suc (suc (suc (suc (suc (suc (suc (suc (suc (suc zero)))))))))))) h =
+    one 12 plus plus plus refl (λ n. up n.0)
+axis_is (suc (suc (suc (suc (suc (suc (suc (suc (suc (suc (suc (suc (suc n))))))))))))) h =
+    absurd (omega (arith, h))

@@ -18,7 +18,8 @@ far_apart x y high low k v w h pv pw ph hx hy hk =
     let vw : pos 0 <ℤ (v *ℤ w) = positive_product v w pv pw in
     let a = simp laid_out at (mul_le_right (x *ℤ (h +ℤ h)) (high *ℤ v) w hx nw) in
     let b = simp laid_out at (mul_le_right (low *ℤ w) (y *ℤ (h +ℤ h)) v hy nv) in
-    let c = simp laid_out at (positive_product (low -ℤ (high +ℤ k *ℤ h)) (v *ℤ w) (omega (arith, sums, hk)) vw) in
+    let c = simp laid_out at (positive_product (low -ℤ (high +ℤ k *ℤ h)) (v *ℤ w) (omega (arith, sums, hk))
+    vw) in
     lt_cancel _ _ h nh (simp laid_out (omega (arith, sums, a, b, c)))
 
 pub not_far : (x y high low k v w h : ℤ) → pos 0 <ℤ v → pos 0 <ℤ w → pos 0 <ℤ h
@@ -34,14 +35,17 @@ not_far x y high low k v w h pv pw ph hx hy hk =
     cancel _ _ h ph (simp laid_out (omega (arith, sums, a, b, c)))
 
 -- the same along the negation of the direction, where the second position is the first there
-pub far_back : (x y k v w : ℤ) → (pos 2 *ℤ (y *ℤ v) +ℤ k *ℤ (w *ℤ v)) <ℤ (pos 2 *ℤ (x *ℤ w)) → (pos 2 *ℤ (neg_ℤ x *ℤ w) +ℤ k *ℤ (v *ℤ w)) <ℤ (pos 2 *ℤ (neg_ℤ y *ℤ v))
+pub far_back : (x y k v w : ℤ) → (pos 2 *ℤ (y *ℤ v) +ℤ k *ℤ (w *ℤ v)) <ℤ (pos 2 *ℤ (x *ℤ w))
+    → (pos 2 *ℤ (neg_ℤ x *ℤ w) +ℤ k *ℤ (v *ℤ w)) <ℤ (pos 2 *ℤ (neg_ℤ y *ℤ v))
 far_back x y k v w h = let l = simp laid_out at h in simp laid_out (omega (arith, sums, l))
 
-pub not_far_back : (x y k v w : ℤ) → (pos 2 *ℤ (neg_ℤ x *ℤ w)) ≤ℤ (pos 2 *ℤ (neg_ℤ y *ℤ v) +ℤ k *ℤ (w *ℤ v)) → (pos 2 *ℤ (y *ℤ v)) ≤ℤ (pos 2 *ℤ (x *ℤ w) +ℤ k *ℤ (v *ℤ w))
+pub not_far_back : (x y k v w : ℤ) → (pos 2 *ℤ (neg_ℤ x *ℤ w)) ≤ℤ (pos 2 *ℤ (neg_ℤ y *ℤ v) +ℤ k *ℤ (w *ℤ v))
+    → (pos 2 *ℤ (y *ℤ v)) ≤ℤ (pos 2 *ℤ (x *ℤ w) +ℤ k *ℤ (v *ℤ w))
 not_far_back x y k v w h = let l = simp laid_out at h in simp laid_out (omega (arith, sums, l))
 
 pub not_less : (a b : ℤ) → a ≤ℤ b → ¬ (b <ℤ a)
 not_less a b h l = omega (arith, ints, h, l)
 
-pub turned : (u v t x y z : ℤ) → neg_ℤ u *ℤ x +ℤ neg_ℤ v *ℤ y +ℤ neg_ℤ t *ℤ z ≡ neg_ℤ (u *ℤ x +ℤ v *ℤ y +ℤ t *ℤ z)
+pub turned : (u v t x y z : ℤ) → neg_ℤ u *ℤ x +ℤ neg_ℤ v *ℤ y +ℤ neg_ℤ t *ℤ z
+    ≡ neg_ℤ (u *ℤ x +ℤ v *ℤ y +ℤ t *ℤ z)
 turned u v t x y z = omega (arith, ints, mul_neg_right u x, mul_neg_right v y, mul_neg_right t z)

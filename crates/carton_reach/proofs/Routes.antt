@@ -18,14 +18,19 @@ reversed xs h k d l =
 turn_back : (t : Turn) → IsTurn t → IsTurn (turned_back t)
 turn_back t h = record { near = h.near; place = h.place }
 
-up_turns : (t : Tree) (p frame : ℕ) → IsCarton t → p < length t.panels → All IsTurn (turns_up t.joints p frame)
+up_turns : (t : Tree) (p frame : ℕ) → IsCarton t → p < length t.panels
+    → All IsTurn (turns_up t.joints p frame)
 unfolding turns_up
-up_turns t p frame h l = All-take IsTurn (steps_to frame (path t.joints p)) (turns_by LONGEST_PATH t.joints p) (valid_turns t LONGEST_PATH p h l)
+up_turns t p frame h l = All-take IsTurn (steps_to frame (path t.joints p)) (turns_by LONGEST_PATH t.joints p)
+    (valid_turns t LONGEST_PATH p h l)
 
-pub turns_are : (t : Tree) (p frame : ℕ) → IsCarton t → p < length t.panels → frame < length t.panels → All IsTurn (turns_between t p frame)
+pub turns_are : (t : Tree) (p frame : ℕ) → IsCarton t → p < length t.panels → frame < length t.panels
+    → All IsTurn (turns_between t p frame)
 unfolding turns_between
 turns_are t p frame h l f =
     let top = parting t p frame in
     let down = turns_up t.joints frame top in
     All-append IsTurn (turns_up t.joints p top) (reverse (map turned_back down)) (up_turns t p top h l)
-    (reversed (map turned_back down) (All-map IsTurn turned_back down (λ k d lt. turn_back (get_or down k d) (up_turns t frame top h f k d lt))))
+    (reversed (map turned_back down)
+    (All-map IsTurn turned_back down
+    (λ k d lt. turn_back (get_or down k d) (up_turns t frame top h f k d lt))))

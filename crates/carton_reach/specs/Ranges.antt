@@ -25,7 +25,8 @@ pub record IsRange (low high : State) : Type 0 where
 
 -- joint by joint, the stops of the state lie between those of the two others
 abbrev pub IsStateBetween : State → State → State → Type 0
-IsStateBetween low high s = (k : ℕ) → k < MOST_JOINTS → LiesBetween (stop_of low k) (stop_of high k) (stop_of s k)
+IsStateBetween low high s = (k : ℕ) → k < MOST_JOINTS
+    → LiesBetween (stop_of low k) (stop_of high k) (stop_of s k)
 
 -- the move goes, on the same grid, from a state between the two to another one between them
 pub record IsMotionBetween (low high : State) (motion : Motion) : Type 0 where
@@ -37,7 +38,8 @@ pub record IsMotionBetween (low high : State) (motion : Motion) : Type 0 where
 abbrev pub HoldsEach : Swing → FoldSpan → Type 0
 HoldsEach s f = (m e n d : ℕ) → IsMoment m e → IsMoment n d → HoldsSwing s n d (angle_of (span_fold f m e))
 
--- the span of the joint's folds from its stop in the one state to that in the other; a locked joint stays flat
+-- the span of the joint's folds from its stop in the one state to that in the other; a locked joint stays
+-- flat
 pub record IsSpan (f : FoldSpan) (a b : ℤ) (grid : ℕ) : Type 0 where
   pub from : f.from ≡ a
   pub to : f.to ≡ b

@@ -27,15 +27,19 @@ SomeCorner from past P = (k : ℕ) × (from ≤ k) × (k < past) × P k
 -- the reach of these corners along the direction over the piece; at depth 36 the bounds of each are close
 pub record IsReach (spots : Spots) (from past index depth : ℕ) (v : List ℤ) (r : Reach) : Type 0 where
   pub above : (k : ℕ) → from ≤ k → k < past → Within index depth (λ n d. IsAbove v r.least_low (spots k n d))
-  pub below : (k : ℕ) → from ≤ k → k < past → Within index depth (λ n d. IsBelow v r.greatest_high (spots k n d))
-  pub some_below : SomeCorner from past (λ k. Within index depth (λ n d. IsBelow v r.least_high (spots k n d)))
-  pub some_above : SomeCorner from past (λ k. Within index depth (λ n d. IsAbove v r.greatest_low (spots k n d)))
+  pub below : (k : ℕ) → from ≤ k → k < past
+      → Within index depth (λ n d. IsBelow v r.greatest_high (spots k n d))
+  pub some_below : SomeCorner from past
+      (λ k. Within index depth (λ n d. IsBelow v r.least_high (spots k n d)))
+  pub some_above : SomeCorner from past
+      (λ k. Within index depth (λ n d. IsAbove v r.greatest_low (spots k n d)))
   pub close_lows : depth ≡ 36 → r.least_high ≤ℤ (r.least_low +ℤ pos (2 ^ 38))
   pub close_highs : depth ≡ 36 → r.greatest_high ≤ℤ (r.greatest_low +ℤ pos (2 ^ 38))
 
 -- the reaches of these corners along the 13 axes
 abbrev pub AreReaches : Spots → ℕ → ℕ → ℕ → ℕ → List Reach → Type 0
-AreReaches spots from past index depth rs = (a : ℕ) (d : Reach) → a < 13 → IsReach spots from past index depth (axis_at a) (get_or rs a d)
+AreReaches spots from past index depth rs = (a : ℕ) (d : Reach) → a < 13
+    → IsReach spots from past index depth (axis_at a) (get_or rs a d)
 
 -- half a unit of length
 abbrev pub half : ℤ
@@ -50,7 +54,9 @@ abbrev pub IsNear : ℤ → Reach → Reach → Type 0
 IsNear room p q = q.least_high ≤ℤ (p.greatest_low +ℤ room)
 
 abbrev pub SomeApart : ℤ → List Reach → List Reach → Type 0
-SomeApart room ps qs = (a : ℕ) × (d : Reach) × (a < 13) × (IsApart room (get_or ps a d) (get_or qs a d) ⊎ IsApart room (get_or qs a d) (get_or ps a d))
+SomeApart room ps qs = (a : ℕ) × (d : Reach) × (a < 13)
+    × (IsApart room (get_or ps a d) (get_or qs a d) ⊎ IsApart room (get_or qs a d) (get_or ps a d))
 
 abbrev pub AllNear : ℤ → List Reach → List Reach → Type 0
-AllNear room ps qs = (a : ℕ) (d : Reach) → a < 13 → IsNear room (get_or ps a d) (get_or qs a d) × IsNear room (get_or qs a d) (get_or ps a d)
+AllNear room ps qs = (a : ℕ) (d : Reach) → a < 13 → IsNear room (get_or ps a d) (get_or qs a d)
+    × IsNear room (get_or qs a d) (get_or ps a d)

@@ -27,7 +27,8 @@ corners_in t p = length (shape_at t p).shrunk
 
 -- where corner k of some flat corners stands after turns, at the moment n / d of the move
 abbrev pub spots_after : Motion → List Turn → List Triple → ℕ → ℕ → ℕ → Position
-spots_after motion turns corners k n d = placed (fold_at motion n d) turns (slice_index_or (map laid corners) k origin)
+spots_after motion turns corners k n d =
+    placed (fold_at motion n d) turns (slice_index_or (map laid corners) k origin)
 
 -- where corner k of the shrunk panel p stands in the frame of a panel, at the moment n / d of the move
 abbrev pub spots_in : Tree → Motion → ℕ → ℕ → ℕ → ℕ → ℕ → Position

@@ -19,8 +19,10 @@ pub record IsNearStart (s : Start) : Type 0 where
   pub close_x : spread_of s.x.lo s.x.hi ≤ 1
   pub close_y : spread_of s.y.lo s.y.hi ≤ 1
 
--- the position is that of a flat place within the start after the turns, by angles that the swings have at the moment m / d
-pub record IsTurnedFrom (turns : List Turn) (swings : List Swing) (s : Start) (m d : ℕ) (p : Position) : Type 0 where
+-- the position is that of a flat place within the start after the turns, by angles that the swings have at
+-- the moment m / d
+pub record IsTurnedFrom (turns : List Turn) (swings : List Swing) (s : Start) (m d : ℕ) (p : Position) : Type
+    0 where
   pub angles : List Angle
   pub flat : Position
   pub have : HoldSwings swings m d angles
@@ -31,8 +33,12 @@ pub record IsTurnedFrom (turns : List Turn) (swings : List Swing) (s : Start) (m
 abbrev pub most_units : ℕ
 most_units = 18
 
--- at every moment of the piece the corners stand where the turns take the starts, by angles that the swings have at that moment of the piece
-pub record AreTurnedFrom (turns : List Turn) (swings : List Swing) (starts : List Start) (spots : Spots) (index depth : ℕ) : Type 0 where
+-- at every moment of the piece the corners stand where the turns take the starts, by angles that the swings
+-- have at that moment of the piece
+pub record AreTurnedFrom (turns : List Turn) (swings : List Swing) (starts : List Start) (spots : Spots)
+    (index depth : ℕ) : Type 0 where
   pub positive : ArePositive spots
-  pub turned : (k : ℕ) (s : Start) → k < length starts → Within index depth (λ n d. IsTurnedFrom turns swings (get_or starts k s) (n * 2 ^ depth - index * d) d (spots k n d))
+  pub turned : (k : ℕ) (s : Start) → k < length starts
+      → Within index depth (λ n d. IsTurnedFrom turns swings (get_or starts k s) (n * 2 ^ depth - index * d) d
+      (spots k n d))
   pub close : depth ≡ 36 → All (IsSwingWithin most_units) swings

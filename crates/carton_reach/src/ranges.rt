@@ -62,7 +62,8 @@ fn span_between(turn: &Turn, low: &State, high: &State) -> FoldSpan
 fn swing_between(turn: &Turn, low: &State, high: &State) -> Swing
     requires turn { IsTurn turn.now }
     requires range { IsRange low.now high.now }
-    ensures { (motion : Motion) → IsMotionBetween low.now high.now motion → FollowsMove result motion turn.now.place 0 0 }
+    ensures { (motion : Motion) → IsMotionBetween low.now high.now motion
+        → FollowsMove result motion turn.now.place 0 0 }
 {
     swing_within(span_between(turn, low, high))
 }
@@ -74,7 +75,8 @@ pub(crate) fn swings_between(turns: &[Turn], low: &State, high: &State) -> [Swin
     requires turns { All IsTurn turns.now }
     requires range { IsRange low.now high.now }
     ensures length { length result ≡ LONGEST_PATH }
-    ensures swings { (motion : Motion) → IsMotionBetween low.now high.now motion → (k : ℕ) (s : Swing) (t : Turn) → k < length turns.now
+    ensures swings { (motion : Motion) → IsMotionBetween low.now high.now motion
+        → (k : ℕ) (s : Swing) (t : Turn) → k < length turns.now
         → FollowsMove (get_or result k s) motion (get_or turns.now k t).place 0 0 }
 {
     let still = swing_within(FoldSpan {

@@ -1,51 +1,20 @@
 ghost use Rattle.std.specs.Prelude.{◌≡◌, ◌↔◌, ℕ, ◌<◌, ◌≤◌, length, take, All, None, IfSome};
-ghost use Rattle.carton_base.specs.declared.ids.PanelId.{PanelId};
 ghost use Rattle.carton_base.specs.declared.limits.TheConstants.{LONGEST_PATH, MOST_JOINTS};
 ghost use Rattle.carton_base.specs.declared.motion.Motion.{Motion};
 ghost use Rattle.carton_model.specs.Moves.{IsMotion};
 ghost use Rattle.carton_model.specs.Turning.{IsTurn};
-ghost use Rattle.carton_tree.specs.Cartons.{AreStarts};
 ghost use Rattle.carton_tree.specs.Trees.{turns_between};
-ghost use Rattle.carton_reach.specs.Beyond.{Spots};
 ghost use Rattle.carton_reach.specs.Ranges.{IsMotionBetween, IsRange};
 ghost use Rattle.carton_reach.specs.Reaches.{AreReaches};
 ghost use Rattle.carton_reach.specs.Spots.{spots_after, spots_in, corners_in, shape_at};
-ghost use Rattle.carton_reach.specs.Starts.{IsNearStart, AreTurnedFrom};
 
-use crate::corners::corner_at;
+use crate::corners::{reaches_from, starts_of};
 use crate::ranges::swings_between;
 use crate::reach::Reaches;
 use carton_base::{Motion, PanelId, Piece, State, Turn};
 use carton_enclose::Enclose;
-use carton_place::{Swing, swings_over};
-use carton_tree::{Carton, Route, Start};
-
-// Where the corners of the shrunk panel stand in its own frame.
-fn starts_of(carton: &Carton, panel: PanelId) -> &[Start]
-    requires { panel.0 < length carton.now.panels }
-    ensures starts { AreStarts (shape_at carton.now panel.0).shrunk result.now }
-    ensures some { 0 < length result.now }
-    ensures near { All IsNearStart result.now }
-{
-    let corners = carton.panel(panel).shrunk();
-    &carton.starts(panel)[..corners.len()]
-}
-
-// How far the corners that stand at these starts reach after the turns, by one swing for each.
-fn reaches_from<E: Enclose>(turns: &[Turn], swings: &[Swing], starts: &[Start]) -> Reaches
-    requires count { length turns.now ≤ LONGEST_PATH }
-    requires turns { All IsTurn turns.now }
-    requires one_each { length swings.now ≡ length turns.now }
-    requires some { 0 < length starts.now }
-    requires near { All IsNearStart starts.now }
-    ensures { (spots : Spots) (index depth : ℕ) → AreTurnedFrom turns.now swings.now starts.now spots index depth → AreReaches spots 0 (length starts.now) index depth result.axes }
-{
-    let mut all = Reaches::of_corner::<E>(corner_at(turns, swings, starts[0]));
-    for k in 1..starts.len() {
-        all.widen::<E>(corner_at(turns, swings, starts[k]));
-    }
-    all
-}
+use carton_place::swings_over;
+use carton_tree::{Carton, Route};
 
 // How far the corners of the shrunk panel reach after the turns of the route, over a piece of the move.
 fn reaches_by<E: Enclose>(
@@ -59,7 +28,9 @@ fn reaches_by<E: Enclose>(
     requires count { route.now.count ≤ LONGEST_PATH }
     requires turns { All IsTurn (take route.now.count route.now.turns) }
     requires motion { IsMotion MOST_JOINTS motion.now }
-    ensures { AreReaches (spots_after motion.now (take route.now.count route.now.turns) (shape_at carton.now panel.0).shrunk) 0 (corners_in carton.now panel.0) piece.index piece.depth result.axes }
+    ensures { AreReaches (spots_after motion.now (take route.now.count route.now.turns)
+        (shape_at carton.now panel.0).shrunk) 0 (corners_in carton.now panel.0) piece.index piece.depth
+        result.axes }
 {
     let turns = &route.turns[..route.count as usize];
     let swings = swings_over(turns, motion, piece);
@@ -78,7 +49,8 @@ pub fn reaches<E: Enclose>(
     requires panel { panel.0 < length carton.now.panels }
     requires frame { frame.0 < length carton.now.panels }
     requires motion { IsMotion MOST_JOINTS motion.now }
-    ensures reaches { IfSome result (λ r. AreReaches (spots_in carton.now motion.now panel.0 frame.0) 0 (corners_in carton.now panel.0) piece.index piece.depth r.axes) }
+    ensures reaches { IfSome result (λ r. AreReaches (spots_in carton.now motion.now panel.0 frame.0) 0
+        (corners_in carton.now panel.0) piece.index piece.depth r.axes) }
     ensures far { result ≡ None ↔ (LONGEST_PATH < length (turns_between carton.now panel.0 frame.0)) }
 {
     let panels = carton.panels();
@@ -101,7 +73,8 @@ fn reaches_between<E: Enclose>(
     requires turns { All IsTurn (take route.now.count route.now.turns) }
     requires range { IsRange low.now high.now }
     ensures { (motion : Motion) → IsMotionBetween low.now high.now motion
-        → AreReaches (spots_after motion (take route.now.count route.now.turns) (shape_at carton.now panel.0).shrunk) 0 (corners_in carton.now panel.0) 0 0 result.axes }
+        → AreReaches (spots_after motion (take route.now.count route.now.turns)
+        (shape_at carton.now panel.0).shrunk) 0 (corners_in carton.now panel.0) 0 0 result.axes }
 {
     let turns = &route.turns[..route.count as usize];
     let swings = swings_between(turns, low, high);
@@ -122,7 +95,8 @@ pub fn reaches_within<E: Enclose>(
     requires frame { frame.0 < length carton.now.panels }
     requires range { IsRange low.now high.now }
     ensures reaches { (motion : Motion) → IsMotionBetween low.now high.now motion
-        → IfSome result (λ r. AreReaches (spots_in carton.now motion panel.0 frame.0) 0 (corners_in carton.now panel.0) 0 0 r.axes) }
+        → IfSome result (λ r. AreReaches (spots_in carton.now motion panel.0 frame.0) 0
+        (corners_in carton.now panel.0) 0 0 r.axes) }
     ensures far { result ≡ None ↔ (LONGEST_PATH < length (turns_between carton.now panel.0 frame.0)) }
 {
     let panels = carton.panels();

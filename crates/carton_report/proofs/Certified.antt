@@ -11,10 +11,16 @@ use Rattle.carton_report.specs.declared.tightest.Tight.{Tight}
 use Rattle.carton_report.specs.Clearances.{IsCertified, IsTightest}
 use Rattle.carton_report.specs.Tightest.{AllStayClear, IsTight}
 
-pub certified : (t : Tree) (states : List State) (i clear : ℕ) (m : Motion) → IsMove states i m.from m.to → AllStayClear t m clear → IsCertified t states i clear
-certified t states i clear m is h = λ s r n. of_move (λ x y. (k d : ℕ) → IsMoment k d → AreAllParted t (folds_between x y k d) (pos 2 *ℤ (pos clear -ℤ pos 1))) states i m.from m.to s r is n (λ k d at a b apart. h a b apart k d at)
+pub certified : (t : Tree) (states : List State) (i clear : ℕ) (m : Motion) → IsMove states i m.from m.to
+    → AllStayClear t m clear → IsCertified t states i clear
+certified t states i clear m is h =
+    λ s r n. of_move (λ x y. (k d : ℕ) → IsMoment k d
+    → AreAllParted t (folds_between x y k d) (pos 2 *ℤ (pos clear -ℤ pos 1))) states i m.from m.to s r is n
+    (λ k d at a b apart. h a b apart k d at)
 
-pub tightest : (t : Tree) (slack : ℕ) (states : List State) (i : ℕ) (m : Motion) (tight : Tight) → IsMove states i m.from m.to → IsTight t m slack tight → AllStayClear t m tight.clear → IsTightest t slack states i tight.clear tight.a.0 tight.b.0 tight.moment
+pub tightest : (t : Tree) (slack : ℕ) (states : List State) (i : ℕ) (m : Motion) (tight : Tight)
+    → IsMove states i m.from m.to → IsTight t m slack tight → AllStayClear t m tight.clear
+    → IsTightest t slack states i tight.clear tight.a.0 tight.b.0 tight.moment
 tightest t slack states i m tight is h all = record {
   narrow = h.narrow;
   certified = certified t states i tight.clear m is all;

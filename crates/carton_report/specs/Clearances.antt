@@ -17,20 +17,26 @@ use Rattle.carton_report.specs.declared.cleared.Row.TheVariants.{Wide, Tight}
 use Rattle.carton_report.specs.declared.cleared.Cleared.{Cleared}
 use Rattle.carton_report.specs.declared.cleared.Cleared.TheVariants.{Rows, Fails, Memory}
 
--- the clearance is certified of move i: at every moment every two panels that share no crease are parted by more than clear - 1
+-- the clearance is certified of move i: at every moment every two panels that share no crease are parted by
+-- more than clear - 1
 abbrev pub IsCertified : Tree → List State → ℕ → ℕ → Type 0
-IsCertified t states i clear = (s r : State) → IsMove states i s r → (n d : ℕ) → IsMoment n d → AreAllParted t (folds_between s r n d) (pos 2 *ℤ (pos clear -ℤ pos 1))
+IsCertified t states i clear = (s r : State) → IsMove states i s r → (n d : ℕ) → IsMoment n d
+    → AreAllParted t (folds_between s r n d) (pos 2 *ℤ (pos clear -ℤ pos 1))
 
 -- at this moment of move i no frame and direction part panels a and b by more than clear and half the slack
 abbrev pub AreNear : Tree → ℕ → List State → ℕ → ℕ → ℕ → ℕ → Moment → Type 0
-AreNear t slack states i clear a b m = (s r : State) × IsMove states i s r × IsHalvedMoment m (λ n d. ¬ (ArePartedBy t (folds_between s r n d) a b (pos 2 *ℤ pos clear +ℤ pos slack)))
+AreNear t slack states i clear a b m = (s r : State) × IsMove states i s r
+    × IsHalvedMoment m (λ n d.
+    ¬ (ArePartedBy t (folds_between s r n d) a b (pos 2 *ℤ pos clear +ℤ pos slack)))
 
--- the clearance is certified of move i, it isn't that of a wide one, and panels a and b, which share no crease, come that near
-pub record IsTightest (t : Tree) (slack : ℕ) (states : List State) (i clear a b : ℕ) (m : Moment) : Type 0 where
-  pub narrow : clear < WIDE_CLEARANCE
-  pub certified : IsCertified t states i clear
-  pub strangers : AreStrangers t a b
-  pub near : AreNear t slack states i clear a b m
+-- the clearance is certified of move i, it isn't that of a wide one, and panels a and b, which share no
+-- crease, come that near
+pub record IsTightest (t : Tree) (slack : ℕ) (states : List State) (i clear a b : ℕ) (m : Moment) : Type 0
+  where
+    pub narrow : clear < WIDE_CLEARANCE
+    pub certified : IsCertified t states i clear
+    pub strangers : AreStrangers t a b
+    pub near : AreNear t slack states i clear a b m
 
 -- the row is that of move i
 abbrev pub IsRow : Tree → ℕ → List State → ℕ → Row → Type 0
@@ -41,9 +47,11 @@ IsRow t slack states i (Tight step clear a b m) = (step ≡ i) × IsTightest t s
 abbrev pub AreRows : Tree → ℕ → List State → List Row → Type 0
 AreRows t slack states rows = (i : ℕ) (row : Row) → slice_get rows i ≡ Some row → IsRow t slack states i row
 
--- what is told of a plan: that it holds and has as many moves as there are rows, which are theirs; or what its check says, which isn't that it holds
+-- what is told of a plan: that it holds and has as many moves as there are rows, which are theirs; or what
+-- its check says, which isn't that it holds
 abbrev pub IsCleared : Tree → Task → Plan → Cleared → Type 0
-IsCleared t task plan (Rows rows) = IsChecked t task plan (Holds (length rows)) × AreRows t task.slack plan.states rows
+IsCleared t task plan (Rows rows) = IsChecked t task plan (Holds (length rows))
+    × AreRows t task.slack plan.states rows
 IsCleared t task plan (Fails answer) = IsChecked t task plan answer × ((moves : ℕ) → answer ≢ Holds moves)
 IsCleared t task plan Memory = Unit {0}
 

@@ -18,85 +18,71 @@ pub struct Near {
     pub moment: Moment,
 }
 
-// What is known of two panels at a gap of so many units.
-fn parting(
-    carton: &Carton,
-    motion: &Motion,
-    a: PanelId,
-    b: PanelId,
-    gap: u16,
-    slack: u16,
-) -> Parting
-    requires a { a.0 < length carton.now.panels }
-    requires b { b.0 < length carton.now.panels }
-    requires motion { IsMotion MOST_JOINTS motion.now }
-    requires gap { gap < WIDE_CLEARANCE }
-    requires slack { (1 ≤ slack) × (slack ≤ 1000) }
-    ensures { IsPartingOf carton.now motion.now a.0 b.0 (pos gap) slack result }
-{
-    part_over::<Fix>(carton, motion, a, b, i64::from(gap), slack)
+/// A move that is judged by a slack.
+#[derive(Clone, Copy)]
+pub struct JudgedMove<'a> {
+    pub carton: &'a Carton,
+    pub motion: &'a Motion,
+    pub slack: u16,
+    pub ghost moves: { IsMotion MOST_JOINTS motion.now },
+    pub ghost some_slack: { 1 ≤ slack },
+    pub ghost narrow_slack: { slack ≤ 1000 },
 }
 
-// How near two panels come that aren't parted by more than first.clear + slack/2 at its moment. The
-// moment that was told of a gap is kept with it, since a second answer may tell another.
-fn narrowed(
-    carton: &Carton,
-    motion: &Motion,
-    a: PanelId,
-    b: PanelId,
-    slack: u16,
-    first: Near,
-) -> Near
-    requires a { a.0 < length carton.now.panels }
-    requires b { b.0 < length carton.now.panels }
-    requires motion { IsMotion MOST_JOINTS motion.now }
-    requires slack { (1 ≤ slack) × (slack ≤ 1000) }
-    requires apart { StayParted carton.now motion.now a.0 b.0 (pos 0) }
-    requires narrow { first.clear < WIDE_CLEARANCE }
-    requires first { AreUnparted carton.now motion.now a.0 b.0 (pos first.clear) slack first.moment }
-    ensures near { IsNearOf carton.now motion.now a.0 b.0 slack result }
-    ensures less { result.clear ≤ first.clear }
-{
-    let mut certified = 0;
-    let mut near = first;
-    while certified < near.clear {
-        let clear = certified + (near.clear - certified) / 2;
-        match parting(carton, motion, a, b, clear, slack) {
-            Parting::Parted => certified = clear + 1,
-            Parting::Undecided(moment) => near = Near { clear, moment },
+impl JudgedMove<'_> {
+    // What is known of two panels at a gap of so many units.
+    fn parting(&self, a: PanelId, b: PanelId, gap: u16) -> Parting
+        requires a { a.0 < length self.now.carton.now.panels }
+        requires b { b.0 < length self.now.carton.now.panels }
+        requires gap { gap < WIDE_CLEARANCE }
+        ensures { IsPartingOf self.now.carton.now self.now.motion.now a.0 b.0 (pos gap) self.now.slack
+            result }
+    {
+        part_over::<Fix>(self.carton, self.motion, a, b, i64::from(gap), self.slack)
+    }
+
+    // How near two panels come that aren't parted by more than first.clear + slack/2 at its moment. The
+    // moment that was told of a gap is kept with it, since a second answer may tell another.
+    fn narrowed(&self, a: PanelId, b: PanelId, first: Near) -> Near
+        requires a { a.0 < length self.now.carton.now.panels }
+        requires b { b.0 < length self.now.carton.now.panels }
+        requires apart { StayParted self.now.carton.now self.now.motion.now a.0 b.0 (pos 0) }
+        requires narrow { first.clear < WIDE_CLEARANCE }
+        requires first { AreUnparted self.now.carton.now self.now.motion.now a.0 b.0 (pos first.clear)
+            self.now.slack first.moment }
+        ensures near { IsNearOf self.now.carton.now self.now.motion.now a.0 b.0 self.now.slack result }
+        ensures less { result.clear ≤ first.clear }
+    {
+        let mut certified = 0;
+        let mut near = first;
+        while certified < near.clear {
+            let clear = certified + (near.clear - certified) / 2;
+            match self.parting(a, b, clear) {
+                Parting::Parted => certified = clear + 1,
+                Parting::Undecided(moment) => near = Near { clear, moment },
+            }
         }
+        near
     }
-    near
-}
 
-/// How near two panels come, where it isn't certain that they stay parted by more than clear - 1.
-pub fn nearer(
-    carton: &Carton,
-    motion: &Motion,
-    a: PanelId,
-    b: PanelId,
-    slack: u16,
-    clear: u16,
-) -> Option<Near>
-    requires a { a.0 < length carton.now.panels }
-    requires b { b.0 < length carton.now.panels }
-    requires motion { IsMotion MOST_JOINTS motion.now }
-    requires slack { (1 ≤ slack) × (slack ≤ 1000) }
-    requires apart { StayParted carton.now motion.now a.0 b.0 (pos 0) }
-    requires clear { clear ≤ WIDE_CLEARANCE }
-    ensures near { IfSome result (IsNearOf carton.now motion.now a.0 b.0 slack) }
-    ensures less { IfSome result (λ n. n.clear < clear) }
-    ensures none { result ≡ None → StayClear carton.now motion.now a.0 b.0 clear }
-{
-    if clear == 0 {
-        return None;
-    }
-    let clear = clear - 1;
-    match parting(carton, motion, a, b, clear, slack) {
-        Parting::Parted => None,
-        Parting::Undecided(moment) => {
-            let first = Near { clear, moment };
-            Some(narrowed(carton, motion, a, b, slack, first))
+    /// How near two panels come, where it isn't certain that they stay parted by more than clear - 1.
+    pub fn nearer(&self, a: PanelId, b: PanelId, clear: u16) -> Option<Near>
+        requires a { a.0 < length self.now.carton.now.panels }
+        requires b { b.0 < length self.now.carton.now.panels }
+        requires apart { StayParted self.now.carton.now self.now.motion.now a.0 b.0 (pos 0) }
+        requires clear { clear ≤ WIDE_CLEARANCE }
+        ensures near { IfSome result
+            (IsNearOf self.now.carton.now self.now.motion.now a.0 b.0 self.now.slack) }
+        ensures less { IfSome result (λ n. n.clear < clear) }
+        ensures none { result ≡ None → StayClear self.now.carton.now self.now.motion.now a.0 b.0 clear }
+    {
+        if clear == 0 {
+            return None;
+        }
+        let clear = clear - 1;
+        match self.parting(a, b, clear) {
+            Parting::Parted => None,
+            Parting::Undecided(moment) => Some(self.narrowed(a, b, Near { clear, moment })),
         }
     }
 }

@@ -1,33 +1,19 @@
 ghost use Rattle.std.specs.Prelude.{◌≡◌, ℕ, ◌+◌, ◌<◌, ◌≤◌, List, length, pos, ◌*ℤ◌, IfOk};
-ghost use Rattle.carton_base.specs.declared.limits.TheConstants.{MOST_JOINTS, WIDEST_SLACK};
-ghost use Rattle.carton_model.specs.Moves.{IsMotion};
+ghost use Rattle.carton_base.specs.declared.limits.TheConstants.{WIDEST_SLACK};
 ghost use Rattle.carton_text.specs.PlanRules.{IsPlan};
 ghost use Rattle.carton_text.specs.TaskRules.{IsTask};
 ghost use Rattle.carton_check.specs.Checks.{HasMoves};
-ghost use Rattle.carton_check.specs.Sound.{IsMove, IsSound, KeepsApart};
+ghost use Rattle.carton_check.specs.Sound.{IsSound, KeepsApart};
 ghost use Rattle.carton_check.specs.Steps.{AreMoves};
 ghost use Rattle.carton_report.specs.Clearances.{AreRows, IsCleared, IsRow, IsRowsOrMemory};
 
 use crate::cleared::{Cleared, Row};
 use crate::tightest::{Tight, tightest};
-use carton_base::{Listed, Motion, OutOfMemory, State};
-use carton_check::{Checked, check};
+use carton_base::{Listed, OutOfMemory, State};
+use carton_check::{Checked, check, move_at};
 use carton_text::{Plan, Task};
 use carton_tree::Carton;
 use std::alloc::Global;
-
-// Move i of the states.
-fn move_at(states: &[State], i: usize) -> Motion
-    requires moves { AreMoves states.now }
-    requires inside { i + 1 < length states.now }
-    ensures is { IsMove states.now i result.from result.to }
-    ensures motion { IsMotion MOST_JOINTS result }
-{
-    Motion {
-        from: states[i],
-        to: states[i + 1],
-    }
-}
 
 // The row of move i, in which all panels keep apart.
 fn row_at(carton: &Carton, slack: u16, states: &[State], i: usize) -> Row
@@ -88,7 +74,8 @@ pub fn clearances(alloc: Global, carton: &Carton, task: &Task, plan: &Plan) -> C
     requires plan { IsPlan plan.now }
     ensures cleared { IsCleared carton.now task.now plan.now result }
     ensures sound { (rows : List Row) → result ≡ Cleared.Rows rows → IsSound carton.now task.now plan.now }
-    ensures slack_clear { HasMoves task.now plan.now → KeepsApart carton.now plan.now.states (pos 2 *ℤ pos task.now.slack) → IsRowsOrMemory result }
+    ensures slack_clear { HasMoves task.now plan.now
+        → KeepsApart carton.now plan.now.states (pos 2 *ℤ pos task.now.slack) → IsRowsOrMemory result }
 {
     let answer = check(carton, task, plan);
     let Checked::Holds(_) = answer else {

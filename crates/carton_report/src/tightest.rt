@@ -6,7 +6,7 @@ ghost use Rattle.carton_part.specs.Parted.{AreStrangers};
 ghost use Rattle.carton_report.specs.Tightest.{AllStayClear, IsTight, StayClear, clearance_of};
 
 use crate::cleared::WIDE_CLEARANCE;
-use crate::narrowing::nearer;
+use crate::narrowing::JudgedMove;
 use carton_base::{Moment, Motion, PanelId};
 use carton_tree::Carton;
 
@@ -29,62 +29,49 @@ fn clearance(tightest: Option<Tight>) -> u16
     }
 }
 
-// The tightest pair of these so far and of panels a and b, if they share no crease.
-fn with_pair(
-    carton: &Carton,
-    motion: &Motion,
-    slack: u16,
-    a: PanelId,
-    b: PanelId,
-    so_far: Option<Tight>,
-) -> Option<Tight>
-    requires order { a.0 < b.0 }
-    requires b { b.0 < length carton.now.panels }
-    requires motion { IsMotion MOST_JOINTS motion.now }
-    requires slack { (1 ≤ slack) × (slack ≤ 1000) }
-    requires apart { StayAllParted carton.now motion.now (pos 0) }
-    requires so_far { IfSome so_far (IsTight carton.now motion.now slack) }
-    ensures tight { IfSome result (IsTight carton.now motion.now slack) }
-    ensures less { clearance_of result ≤ clearance_of so_far }
-    ensures clear { AreStrangers carton.now a.0 b.0 → StayClear carton.now motion.now a.0 b.0 (clearance_of result) }
-{
-    if carton.shares_crease(a, b) {
-        return so_far;
+impl JudgedMove<'_> {
+    // The tightest pair of these so far and of panels a and b, if they share no crease.
+    fn with_pair(&self, a: PanelId, b: PanelId, so_far: Option<Tight>) -> Option<Tight>
+        requires order { a.0 < b.0 }
+        requires b { b.0 < length self.now.carton.now.panels }
+        requires apart { StayAllParted self.now.carton.now self.now.motion.now (pos 0) }
+        requires so_far { IfSome so_far (IsTight self.now.carton.now self.now.motion.now self.now.slack) }
+        ensures tight { IfSome result (IsTight self.now.carton.now self.now.motion.now self.now.slack) }
+        ensures less { clearance_of result ≤ clearance_of so_far }
+        ensures clear { AreStrangers self.now.carton.now a.0 b.0
+            → StayClear self.now.carton.now self.now.motion.now a.0 b.0 (clearance_of result) }
+    {
+        if self.carton.shares_crease(a, b) {
+            return so_far;
+        }
+        match self.nearer(a, b, clearance(so_far)) {
+            Some(near) => Some(Tight {
+                clear: near.clear,
+                a,
+                b,
+                moment: near.moment,
+            }),
+            None => so_far,
+        }
     }
-    match nearer(carton, motion, a, b, slack, clearance(so_far)) {
-        Some(near) => Some(Tight {
-            clear: near.clear,
-            a,
-            b,
-            moment: near.moment,
-        }),
-        None => so_far,
-    }
-}
 
-// The tightest pair of these so far and of panel a with each of greater number.
-fn with_panel(
-    carton: &Carton,
-    motion: &Motion,
-    slack: u16,
-    a: PanelId,
-    so_far: Option<Tight>,
-) -> Option<Tight>
-    requires a { a.0 < length carton.now.panels }
-    requires motion { IsMotion MOST_JOINTS motion.now }
-    requires slack { (1 ≤ slack) × (slack ≤ 1000) }
-    requires apart { StayAllParted carton.now motion.now (pos 0) }
-    requires so_far { IfSome so_far (IsTight carton.now motion.now slack) }
-    ensures tight { IfSome result (IsTight carton.now motion.now slack) }
-    ensures less { clearance_of result ≤ clearance_of so_far }
-    ensures clear { (b : ℕ) → AreStrangers carton.now a.0 b → StayClear carton.now motion.now a.0 b (clearance_of result) }
-{
-    let mut tightest = so_far;
-    let count = carton.panels();
-    for b in a.0 + 1..count {
-        tightest = with_pair(carton, motion, slack, a, PanelId(b), tightest);
+    // The tightest pair of these so far and of panel a with each of greater number.
+    fn with_panel(&self, a: PanelId, so_far: Option<Tight>) -> Option<Tight>
+        requires a { a.0 < length self.now.carton.now.panels }
+        requires apart { StayAllParted self.now.carton.now self.now.motion.now (pos 0) }
+        requires so_far { IfSome so_far (IsTight self.now.carton.now self.now.motion.now self.now.slack) }
+        ensures tight { IfSome result (IsTight self.now.carton.now self.now.motion.now self.now.slack) }
+        ensures less { clearance_of result ≤ clearance_of so_far }
+        ensures clear { (b : ℕ) → AreStrangers self.now.carton.now a.0 b
+            → StayClear self.now.carton.now self.now.motion.now a.0 b (clearance_of result) }
+    {
+        let mut tightest = so_far;
+        let count = self.carton.panels();
+        for b in a.0 + 1..count {
+            tightest = self.with_pair(a, PanelId(b), tightest);
+        }
+        tightest
     }
-    tightest
 }
 
 /// The tightest pair of panels in a move, None where all stay parted by more than 9999.
@@ -95,9 +82,14 @@ pub fn tightest(carton: &Carton, motion: &Motion, slack: u16) -> Option<Tight>
     ensures tight { IfSome result (IsTight carton.now motion.now slack) }
     ensures clear { AllStayClear carton.now motion.now (clearance_of result) }
 {
+    let judged = JudgedMove {
+        carton,
+        motion,
+        slack,
+    };
     let mut found = None;
     for a in 0..carton.panels() {
-        found = with_panel(carton, motion, slack, PanelId(a), found);
+        found = judged.with_panel(PanelId(a), found);
     }
     found
 }

@@ -1,4 +1,5 @@
-use carton_io::{FileShelf, MemoryShelf, MemorySink, NamedFile, OutSink, SteadyShelf, SteadySink};
+use crate::poses::{files_of, play};
+use carton_io::{FileShelf, OutSink, SteadyShelf, SteadySink};
 use carton_tool::{Status, run, run_steadily};
 use std::alloc::{AllocError, Global};
 use std::io;
@@ -19,32 +20,6 @@ pub fn flat(alloc: Global, name: &str) -> Result<Vec<String>, AllocError> {
     Ok(words)
 }
 
-// One file of the name `x`.
-fn file_of(alloc: Global, text: &[u8]) -> Result<Vec<NamedFile>, AllocError> {
-    let mut files = Vec::new(alloc);
-    files.push(NamedFile {
-        name: String::from_str(alloc, "x")?,
-        bytes: Vec::from_slice(alloc, text)?,
-    })?;
-    Ok(files)
-}
-
-// What `flat NAME 4` wrote over the file `x`, and its status, where the reads of these numbers fail
-// and the sink stops after so many bytes.
-fn play(
-    alloc: Global,
-    name: &str,
-    text: &[u8],
-    failing: &[u32],
-    stop_after: Option<usize>,
-) -> Result<(Status, Vec<u8>), Fail> {
-    let words = flat(alloc, name)?;
-    let mut shelf = MemoryShelf::new(file_of(alloc, text)?, Vec::from_slice(alloc, failing)?);
-    let mut sink = MemorySink::with_room(alloc, 1000, stop_after)?;
-    let status = run(alloc, &words, &mut shelf, &mut sink);
-    Ok((status, Vec::from_slice(alloc, sink.bytes())?))
-}
-
 // The name to be read, the reads that fail, where the sink stops, what is written, and the status.
 const ROWS: [(&str, &[u32], Option<usize>, usize, Status); 8] = [
     ("x", &[], None, 8, Status::Done),
@@ -60,7 +35,13 @@ const ROWS: [(&str, &[u32], Option<usize>, usize, Status); 8] = [
 #[test]
 fn ends_that_fail(rt: HostRuntime) -> Result<(), Fail> {
     for (name, failing, stop_after, count, expected) in ROWS {
-        let (status, written) = play(rt.alloc(), name, TRI, failing, stop_after)?;
+        let (status, written) = play(
+            rt.alloc(),
+            &["flat", name, "4"],
+            &[("x", TRI)],
+            failing,
+            stop_after,
+        )?;
         let front = CLEAR.get(..count).ok_or("no front")?;
         assert_eq!(rt; written.as_slice(), front, "{name} {stop_after:?}");
         assert_eq!(rt; status, expected, "{name} {stop_after:?}");
@@ -80,7 +61,7 @@ fn the_longest_file(rt: HostRuntime) -> Result<(), Fail> {
         ),
     ] {
         text.resize(length, b' ')?;
-        let (status, written) = play(rt.alloc(), "x", &text, &[], None)?;
+        let (status, written) = play(rt.alloc(), &["flat", "x", "4"], &[("x", &text)], &[], None)?;
         assert_eq!(rt; written.as_slice(), answer);
         assert_eq!(rt; status, expected);
     }
@@ -90,7 +71,7 @@ fn the_longest_file(rt: HostRuntime) -> Result<(), Fail> {
 #[test]
 fn steady_ends(rt: HostRuntime) -> Result<(), Fail> {
     let alloc = rt.alloc();
-    let mut shelf = SteadyShelf::new(file_of(alloc, TRI)?);
+    let mut shelf = SteadyShelf::new(files_of(alloc, &[("x", TRI)])?);
     let mut sink = SteadySink::new();
     for (name, expected) in [("x", Status::Done), ("y", Status::BadInput)] {
         let words = flat(alloc, name)?;

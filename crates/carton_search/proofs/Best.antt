@@ -1,13 +1,16 @@
 -- A node that is new, or found again with fewer moves.
-use Rattle.std.proofs.Common.{◌≡◌, ℕ, ◌+◌, ◌<◌, ◌≤◌, Bool, true, false, List, Option, Some, None, slice_get, ◌⊎◌, inl, inr, refl, ap, sym, ◌∙◌, subst, arith}
+use Rattle.std.proofs.Common.{◌≡◌, ℕ, ◌+◌, ◌<◌, ◌≤◌, Bool, true, false, List, Option, Some, None, slice_get}
+use Rattle.std.proofs.Common.{◌⊎◌, inl, inr, refl, ap, sym, ◌∙◌, subst, arith}
 use Rattle.carton_base.specs.declared.motion.State.{State}
 use Rattle.carton_search.specs.declared.known.Entry.{Entry}
 use Rattle.carton_search.specs.Paths.{HasFarPath}
-use Rattle.carton_search.specs.Known.{Reached, HasParent, IsTree, IsClosed, Stands, ClosedBut, Queued, Changed}
+use Rattle.carton_search.specs.Known.{Reached, HasParent, IsTree, IsClosed, Stands, ClosedBut, Queued}
+use Rattle.carton_search.specs.Known.{Changed}
 use Rattle.carton_search.proofs.Lists.{same_get, which}
 
 module _ (old new : List Entry) (j : ℕ) (y : Entry) (c : Changed old new j y) where
-  pub changed_get : (i : ℕ) (x : Entry) → slice_get new i ≡ Some x → ((i ≡ j) × (x ≡ y)) ⊎ ((i ≡ j → ⊥) × (slice_get old i ≡ Some x))
+  pub changed_get : (i : ℕ) (x : Entry) → slice_get new i ≡ Some x → ((i ≡ j) × (x ≡ y))
+      ⊎ ((i ≡ j → ⊥) × (slice_get old i ≡ Some x))
   changed_get i x h = elim (which i j) [
     | inl e ↦ inl (e, same_get new i j x y e h c.at)
     | inr n ↦ inr (n, sym (c.others i n) ∙ h)
@@ -18,7 +21,8 @@ module _ (old new : List Entry) (j : ℕ) (y : Entry) (c : Changed old new j y) 
 
 -- what stood at the place waits, with more moves; no other node has the state
 pub record Fresh (es : List Entry) (j : ℕ) (y : Entry) : Type 0 where
-  pub before : (u : Entry) → slice_get es j ≡ Some u → (u.state ≡ y.state) × (u.tried ≡ false) × (y.moves < u.moves)
+  pub before : (u : Entry) → slice_get es j ≡ Some u → (u.state ≡ y.state) × (u.tried ≡ false)
+      × (y.moves < u.moves)
   pub only : (i : ℕ) (e : Entry) → slice_get es i ≡ Some e → e.state ≡ y.state → i ≡ j
 
 -- y comes from e, which is being tried
@@ -36,7 +40,8 @@ apart_tried t a b = cc
 module _ (es new : List Entry) (j : ℕ) (y : Entry) (c : Changed es new j y) (f : Fresh es j y) where
   -- a tried node stands elsewhere
   elsewhere : (i : ℕ) (x : Entry) → slice_get es i ≡ Some x → x.tried ≡ true → i ≡ j → ⊥
-  elsewhere i x h tried same = apart_tried x.tried tried (f.before x (subst (λ k. slice_get es k ≡ Some x) same h)).1
+  elsewhere i x h tried same =
+      apart_tried x.tried tried (f.before x (subst (λ k. slice_get es k ≡ Some x) same h)).1
 
   pub reached_changed : (s : State) (m : ℕ) → Reached es s m → Reached new s m
   reached_changed s m r = elim (which r.place j) [
@@ -45,10 +50,18 @@ module _ (es new : List Entry) (j : ℕ) (y : Entry) (c : Changed es new j y) (f
         let l : y.moves < r.entry.moves = b.2 in
         let few : r.entry.moves ≤ m = r.few in
         record { place = j; entry = y; there = c.at; same = sym b.0 ∙ r.same; few = omega (arith, l, few) }
-    | inr n ↦ record { place = r.place; entry = r.entry; there = changed_kept es new j y c r.place r.entry n r.there; same = r.same; few = r.few }
+    | inr n ↦
+        record {
+          place = r.place;
+          entry = r.entry;
+          there = changed_kept es new j y c r.place r.entry n r.there;
+          same = r.same;
+          few = r.few;
+        }
   ]
 
-  pub closed_changed : (S : State → State → Type 0) (target : State) (place : ℕ) → y.tried ≡ false → ClosedBut S target es place → ClosedBut S target new place
+  pub closed_changed : (S : State → State → Type 0) (target : State) (place : ℕ) → y.tried ≡ false
+      → ClosedBut S target es place → ClosedBut S target new place
   closed_changed S target place waits k i x n h tried = elim (changed_get es new j y c i x h) [
     | inl e ↦ absurd (apart_tried x.tried tried (ap (λ z. z.tried) e.1 ∙ waits))
     | inr o ↦
@@ -58,13 +71,28 @@ module _ (es new : List Entry) (j : ℕ) (y : Entry) (c : Changed es new j y) (f
 
   module _ (C : State → State → Type 0) (place : ℕ) (e : Entry) (is : IsNext C es place e y) where
     parent_changed : (x : Entry) → HasParent C es x → HasParent C new x
-    parent_changed x p = record { parent = p.parent; there = changed_kept es new j y c x.parent p.parent (elsewhere x.parent p.parent p.there p.tried) p.there; tried = p.tried; clear = p.clear; more = p.more }
+    parent_changed x p =
+        record {
+          parent = p.parent;
+          there = changed_kept es new j y c x.parent p.parent (elsewhere x.parent p.parent p.there p.tried)
+              p.there;
+          tried = p.tried;
+          clear = p.clear;
+          more = p.more;
+        }
 
     pub place_kept : slice_get new place ≡ Some e
     place_kept = changed_kept es new j y c place e (elsewhere place e is.there is.tried) is.there
 
     new_parent : HasParent C new y
-    new_parent = record { parent = e; there = subst (λ p. slice_get new p ≡ Some e) (sym is.parent) place_kept; tried = is.tried; clear = is.clear; more = is.moves }
+    new_parent =
+        record {
+          parent = e;
+          there = subst (λ p. slice_get new p ≡ Some e) (sym is.parent) place_kept;
+          tried = is.tried;
+          clear = is.clear;
+          more = is.moves;
+        }
 
     not_first : (start : State) → IsTree C start es → 0 ≡ j → ⊥
     not_first start t same =
@@ -73,13 +101,15 @@ module _ (es new : List Entry) (j : ℕ) (y : Entry) (c : Changed es new j y) (f
         let z : t.root.moves ≡ 0 = t.no_moves in
         omega (arith, l, z)
 
-    tree_parents : (start : State) → IsTree C start es → (i : ℕ) (x : Entry) → 0 < i → slice_get new i ≡ Some x → HasParent C new x
+    tree_parents : (start : State) → IsTree C start es → (i : ℕ) (x : Entry) → 0 < i
+        → slice_get new i ≡ Some x → HasParent C new x
     tree_parents start t i x more h = elim (changed_get es new j y c i x h) [
       | inl k ↦ subst (HasParent C new) (sym k.1) new_parent
       | inr o ↦ parent_changed x (t.parents i x more o.1)
     ]
 
-    tree_apart : (start : State) → IsTree C start es → (i k : ℕ) (a b : Entry) → slice_get new i ≡ Some a → slice_get new k ≡ Some b → a.state ≡ b.state → i ≡ k
+    tree_apart : (start : State) → IsTree C start es → (i k : ℕ) (a b : Entry) → slice_get new i ≡ Some a
+        → slice_get new k ≡ Some b → a.state ≡ b.state → i ≡ k
     tree_apart start t i k a b p q same = elim (changed_get es new j y c i a p) [
       | inl na ↦ elim (changed_get es new j y c k b q) [
         | inl nb ↦ na.0 ∙ sym nb.0
@@ -101,7 +131,8 @@ module _ (es new : List Entry) (j : ℕ) (y : Entry) (c : Changed es new j y) (f
       apart = tree_apart start t;
     }
 
-    module _ (h : State → ℕ) (start : State) (last : ℕ) (falls : h e.state ≤ h y.state + 1) (now : e.moves + h e.state ≡ last) where
+    module _ (h : State → ℕ) (start : State) (last : ℕ) (falls : h e.state ≤ h y.state + 1)
+        (now : e.moves + h e.state ≡ last) where
       pub stands_changed : Stands C h start es last → Stands C h start new last
       stands_changed s = record {
         tree = tree_changed start s.tree;
@@ -119,8 +150,10 @@ module _ (es new : List Entry) (j : ℕ) (y : Entry) (c : Changed es new j y) (f
       }
 
   -- the queue, where the new priority is put or an old one lowered to it
-  pub queued_put : (C : State → State → Type 0) (h : State → ℕ) (start : State) (q r : ℕ → Option ℕ) (dropped : Bool) (p : ℕ) → y.tried ≡ false → p ≡ y.moves + h y.state → p ≤ 4095
-      → r j ≡ Some p → ((n : ℕ) → (n ≡ j → ⊥) → r n ≡ q n) → Queued C h start es q dropped → Queued C h start new r dropped
+  pub queued_put : (C : State → State → Type 0) (h : State → ℕ) (start : State) (q r : ℕ → Option ℕ)
+      (dropped : Bool) (p : ℕ) → y.tried ≡ false → p ≡ y.moves + h y.state → p ≤ 4095
+      → r j ≡ Some p → ((n : ℕ) → (n ≡ j → ⊥) → r n ≡ q n) → Queued C h start es q dropped
+      → Queued C h start new r dropped
   queued_put C h start q r dropped p waits is few at others k = record {
     waits = λ i x g w. elim (changed_get es new j y c i x g) [
       | inl n ↦ inl (ap r n.0 ∙ at ∙ ap Some (is ∙ ap (λ z. z.moves + h z.state) (sym n.1)))
@@ -130,7 +163,8 @@ module _ (es new : List Entry) (j : ℕ) (y : Entry) (c : Changed es new j y) (f
       ]
     ];
     stands = λ i s g. elim (which i j) [
-      | inl e ↦ let same : p ≡ s = (let v : Some p ≡ Some s = sym at ∙ ap r (sym e) ∙ g in cc) in (y, ap (slice_get new) e ∙ c.at, waits, sym same ∙ is, subst (λ m. m ≤ 4095) same few)
+      | inl e ↦ let same : p ≡ s = (let v : Some p ≡ Some s = sym at ∙ ap r (sym e) ∙ g in cc) in
+          (y, ap (slice_get new) e ∙ c.at, waits, sym same ∙ is, subst (λ m. m ≤ 4095) same few)
       | inr n ↦
           let b = k.stands i s (sym (others i n) ∙ g) in
           (b.0, changed_kept es new j y c i b.0 n b.1, b.2, b.3, b.4)
@@ -139,7 +173,8 @@ module _ (es new : List Entry) (j : ℕ) (y : Entry) (c : Changed es new j y) (f
   }
 
   -- the queue, where the new priority is too great
-  pub queued_drop : (C : State → State → Type 0) (h : State → ℕ) (start : State) (q : ℕ → Option ℕ) (dropped : Bool) → y.tried ≡ false → 4095 < y.moves + h y.state
+  pub queued_drop : (C : State → State → Type 0) (h : State → ℕ) (start : State) (q : ℕ → Option ℕ)
+      (dropped : Bool) → y.tried ≡ false → 4095 < y.moves + h y.state
       → q j ≡ None → HasFarPath C start → Queued C h start es q dropped → Queued C h start new q true
   queued_drop C h start q dropped waits many none far k = record {
     waits = λ i x g w. elim (changed_get es new j y c i x g) [
@@ -159,7 +194,8 @@ module _ (es new : List Entry) (j : ℕ) (y : Entry) (c : Changed es new j y) (f
   }
 
   -- a node whose new priority is too great was not in the queue
-  pub not_queued : (C : State → State → Type 0) (h : State → ℕ) (start : State) (q : ℕ → Option ℕ) (dropped : Bool) → 4095 < y.moves + h y.state → Queued C h start es q dropped → q j ≡ None
+  pub not_queued : (C : State → State → Type 0) (h : State → ℕ) (start : State) (q : ℕ → Option ℕ)
+      (dropped : Bool) → 4095 < y.moves + h y.state → Queued C h start es q dropped → q j ≡ None
   not_queued C h start q dropped many k = by (q j) refl
     where
       by : (o : Option ℕ) → q j ≡ o → o ≡ None

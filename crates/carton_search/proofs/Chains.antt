@@ -1,14 +1,18 @@
 -- A found state has a path of clear steps.
-use Rattle.std.proofs.Common.{◌≡◌, ℕ, zero, suc, ◌+◌, ◌<◌, ◌≤◌, Bool, true, false, List, [], ◌∷◌, ◌++◌, Some, slice_get, length, length-append, cond, inl, inr, refl, ap, sym, ◌∙◌, subst, arith}
+use Rattle.std.proofs.Common.{◌≡◌, ℕ, zero, suc, ◌+◌, ◌<◌, ◌≤◌, Bool, true, false, List, [], ◌∷◌, ◌++◌, Some}
+use Rattle.std.proofs.Common.{slice_get, length, length-append, cond, inl, inr, refl, ap, sym, ◌∙◌, subst}
+use Rattle.std.proofs.Common.{arith}
 use Rattle.std.proofs.Math.ListN.{set}
 use Rattle.carton_base.specs.declared.motion.State.{State}
 use Rattle.carton_search.specs.declared.known.Entry.{Entry}
 use Rattle.carton_search.specs.Known.{HasParent, IsTree, Stands, picked}
-use Rattle.carton_search.specs.Paths.{Follows, last_of, IsPath, moves_of, AreDifferent, HasFarPath, AreManyWithin}
+use Rattle.carton_search.specs.Paths.{Follows, last_of, IsPath, moves_of, AreDifferent, HasFarPath}
+use Rattle.carton_search.specs.Paths.{AreManyWithin}
 use Rattle.carton_search.proofs.Lists.{get_of_push, same_get}
 
 module _ (R : State → State → Type 0) where
-  follows_push : (a b c : State) (rest : List State) → Follows R a rest → last_of a rest ≡ b → R b c → Follows R a (rest ++ c ∷ [])
+  follows_push : (a b c : State) (rest : List State) → Follows R a rest → last_of a rest ≡ b → R b c
+      → Follows R a (rest ++ c ∷ [])
   follows_push a b c [] walk ends r = (subst (λ s. R s c) (sym ends) r, tt)
   follows_push a b c (s ∷ rest) walk ends r = (walk.0, follows_push s b c rest walk.1 ends r)
 
@@ -25,7 +29,8 @@ pub record Chain (C : State → State → Type 0) (start : State) (es : List Ent
   pub path : List State
   pub is : IsPath C start e.state path
   pub long : length path ≡ e.moves + 1
-  pub among : (k : ℕ) (s : State) → slice_get path k ≡ Some s → (j : ℕ) × (f : Entry) × (slice_get es j ≡ Some f) × (f.state ≡ s) × (f.moves ≡ k)
+  pub among : (k : ℕ) (s : State) → slice_get path k ≡ Some s → (j : ℕ) × (f : Entry)
+      × (slice_get es j ≡ Some f) × (f.state ≡ s) × (f.moves ≡ k)
 
 module _ (C : State → State → Type 0) (start : State) (es : List Entry) (t : IsTree C start es) where
   one : (s : State) → (k : ℕ) (x : State) → slice_get (s ∷ []) k ≡ Some x → (k ≡ 0) × (s ≡ x)
@@ -43,7 +48,8 @@ module _ (C : State → State → Type 0) (start : State) (es : List Entry) (t :
         among = λ k s h. (0, e, there, (one e.state k s h).1, none ∙ sym (one e.state k s h).0);
       }
 
-  next_chain : (i : ℕ) (e : Entry) → slice_get es i ≡ Some e → (p : HasParent C es e) → Chain C start es p.parent → Chain C start es e
+  next_chain : (i : ℕ) (e : Entry) → slice_get es i ≡ Some e → (p : HasParent C es e)
+      → Chain C start es p.parent → Chain C start es e
   next_chain i e there p c =
       let m : e.moves ≡ p.parent.moves + 1 = p.more in
       let l : length c.path ≡ p.parent.moves + 1 = c.long in record {
@@ -88,12 +94,15 @@ moves_long (s ∷ rest) h = omega arith
 
 -- a picked state's node
 abbrev Pick : List Entry → List State → Type 0
-Pick es xs = (i : ℕ) (s : State) → slice_get xs i ≡ Some s → (j : ℕ) × (f : Entry) × (slice_get es j ≡ Some f) × (f.state ≡ s) × (f.tried ≡ true)
+Pick es xs = (i : ℕ) (s : State) → slice_get xs i ≡ Some s → (j : ℕ) × (f : Entry) × (slice_get es j ≡ Some f)
+    × (f.state ≡ s) × (f.tried ≡ true)
 
-pick_more : (e : Entry) (es : List Entry) (t : Bool) → e.tried ≡ t → Pick es (picked es) → Pick (e ∷ es) (cond t (e.state ∷ picked es) (picked es))
+pick_more : (e : Entry) (es : List Entry) (t : Bool) → e.tried ≡ t → Pick es (picked es)
+    → Pick (e ∷ es) (cond t (e.state ∷ picked es) (picked es))
 pick_more e es true is rest = λ i s h. first i s h
   where
-    first : (i : ℕ) (s : State) → slice_get (e.state ∷ picked es) i ≡ Some s → (j : ℕ) × (f : Entry) × (slice_get (e ∷ es) j ≡ Some f) × (f.state ≡ s) × (f.tried ≡ true)
+    first : (i : ℕ) (s : State) → slice_get (e.state ∷ picked es) i ≡ Some s → (j : ℕ) × (f : Entry)
+        × (slice_get (e ∷ es) j ≡ Some f) × (f.state ≡ s) × (f.tried ≡ true)
     first zero s h = (0, e, refl, cc, is)
     first (suc i) s h = let r = rest i s h in (suc r.0, r.1, r.2, r.3, r.4)
 pick_more e es false is rest = λ i s h. let r = rest i s h in (suc r.0, r.1, r.2, r.3, r.4)
@@ -103,13 +112,16 @@ picked_get [] = λ i s h. cc
 picked_get (e ∷ es) = pick_more e es e.tried refl (picked_get es)
 
 abbrev AreApart : List Entry → Type 0
-AreApart es = (i j : ℕ) (a b : Entry) → slice_get es i ≡ Some a → slice_get es j ≡ Some b → a.state ≡ b.state → i ≡ j
+AreApart es = (i j : ℕ) (a b : Entry) → slice_get es i ≡ Some a → slice_get es j ≡ Some b → a.state ≡ b.state
+    → i ≡ j
 
-different_more : (e : Entry) (es : List Entry) (t : Bool) → AreApart (e ∷ es) → AreDifferent (picked es) → AreDifferent (cond t (e.state ∷ picked es) (picked es))
+different_more : (e : Entry) (es : List Entry) (t : Bool) → AreApart (e ∷ es) → AreDifferent (picked es)
+    → AreDifferent (cond t (e.state ∷ picked es) (picked es))
 different_more e es true apart rest = both
   where
     later : (i : ℕ) (s : State) → e.state ≡ s → slice_get (picked es) i ≡ Some s → ⊥
-    later i s same h = let r = picked_get es i s h in let k : 0 ≡ suc r.0 = apart 0 (suc r.0) e r.1 refl r.2 (same ∙ sym r.3) in omega (arith, k)
+    later i s same h = let r = picked_get es i s h in
+        let k : 0 ≡ suc r.0 = apart 0 (suc r.0) e r.1 refl r.2 (same ∙ sym r.3) in omega (arith, k)
 
     both : AreDifferent (e.state ∷ picked es)
     both zero zero s p q = refl
@@ -120,48 +132,66 @@ different_more e es false apart rest = rest
 
 picked_different : (es : List Entry) → AreApart es → AreDifferent (picked es)
 picked_different [] apart = λ i j s p q. cc
-picked_different (e ∷ es) apart = different_more e es e.tried apart (picked_different es (λ i j a b p q same. let k : suc i ≡ suc j = apart (suc i) (suc j) a b p q same in omega (arith, k)))
+picked_different (e ∷ es) apart =
+    different_more e es e.tried apart
+    (picked_different es (λ i j a b p q same. let k : suc i ≡ suc j = apart (suc i) (suc j) a b p q same in
+    omega (arith, k)))
 
 -- one more is tried
-pub picked_set : (es : List Entry) (i : ℕ) (e y : Entry) → slice_get es i ≡ Some e → e.tried ≡ false → y.tried ≡ true → length (picked (set es i y)) ≡ length (picked es) + 1
+pub picked_set : (es : List Entry) (i : ℕ) (e y : Entry) → slice_get es i ≡ Some e → e.tried ≡ false
+    → y.tried ≡ true → length (picked (set es i y)) ≡ length (picked es) + 1
 picked_set [] i e y h w t = cc
 picked_set (x ∷ es) zero e y h w t =
     let same : x ≡ e = cc in
     let wx : x.tried ≡ false = ap (λ z. z.tried) same ∙ w in
-    let a : length (picked (y ∷ es)) ≡ suc (length (picked es)) = ap (λ b. length (cond b (y.state ∷ picked es) (picked es))) t in
-    let b : length (picked (x ∷ es)) ≡ length (picked es) = ap (λ b. length (cond b (x.state ∷ picked es) (picked es))) wx in
+    let a : length (picked (y ∷ es)) ≡ suc (length (picked es)) =
+    ap (λ b. length (cond b (y.state ∷ picked es) (picked es))) t in
+    let b : length (picked (x ∷ es)) ≡ length (picked es) =
+    ap (λ b. length (cond b (x.state ∷ picked es) (picked es))) wx in
     omega (arith, a, b)
 picked_set (x ∷ es) (suc i) e y h w t = more x.tried (picked_set es i e y h w t)
   where
-    more : (b : Bool) → length (picked (set es i y)) ≡ length (picked es) + 1 → length (cond b (x.state ∷ picked (set es i y)) (picked (set es i y))) ≡ length (cond b (x.state ∷ picked es) (picked es)) + 1
+    more : (b : Bool) → length (picked (set es i y)) ≡ length (picked es) + 1
+        → length (cond b (x.state ∷ picked (set es i y)) (picked (set es i y)))
+        ≡ length (cond b (x.state ∷ picked es) (picked es)) + 1
     more true k = omega (arith, k)
     more false k = k
 
 -- a node that waits is written, or pushed
-pub picked_write : (es : List Entry) (i : ℕ) (e y : Entry) → slice_get es i ≡ Some e → e.tried ≡ false → y.tried ≡ false → length (picked (set es i y)) ≡ length (picked es)
+pub picked_write : (es : List Entry) (i : ℕ) (e y : Entry) → slice_get es i ≡ Some e → e.tried ≡ false
+    → y.tried ≡ false → length (picked (set es i y)) ≡ length (picked es)
 picked_write [] i e y h w t = cc
 picked_write (x ∷ es) zero e y h w t =
     let same : x ≡ e = cc in
     let wx : x.tried ≡ false = ap (λ z. z.tried) same ∙ w in
-    let a : length (picked (y ∷ es)) ≡ length (picked es) = ap (λ b. length (cond b (y.state ∷ picked es) (picked es))) t in
-    let b : length (picked (x ∷ es)) ≡ length (picked es) = ap (λ b. length (cond b (x.state ∷ picked es) (picked es))) wx in
+    let a : length (picked (y ∷ es)) ≡ length (picked es) =
+    ap (λ b. length (cond b (y.state ∷ picked es) (picked es))) t in
+    let b : length (picked (x ∷ es)) ≡ length (picked es) =
+    ap (λ b. length (cond b (x.state ∷ picked es) (picked es))) wx in
     omega (arith, a, b)
 picked_write (x ∷ es) (suc i) e y h w t = more x.tried (picked_write es i e y h w t)
   where
-    more : (b : Bool) → length (picked (set es i y)) ≡ length (picked es) → length (cond b (x.state ∷ picked (set es i y)) (picked (set es i y))) ≡ length (cond b (x.state ∷ picked es) (picked es))
+    more : (b : Bool) → length (picked (set es i y)) ≡ length (picked es)
+        → length (cond b (x.state ∷ picked (set es i y)) (picked (set es i y)))
+        ≡ length (cond b (x.state ∷ picked es) (picked es))
     more true k = omega (arith, k)
     more false k = k
 
-pub picked_push : (es : List Entry) (y : Entry) → y.tried ≡ false → length (picked (es ++ y ∷ [])) ≡ length (picked es)
+pub picked_push : (es : List Entry) (y : Entry) → y.tried ≡ false → length (picked (es ++ y ∷ []))
+    ≡ length (picked es)
 picked_push [] y t = ap (λ b. length (cond b (y.state ∷ []) [])) t
 picked_push (x ∷ es) y t = more x.tried (picked_push es y t)
   where
-    more : (b : Bool) → length (picked (es ++ y ∷ [])) ≡ length (picked es) → length (cond b (x.state ∷ picked (es ++ y ∷ [])) (picked (es ++ y ∷ []))) ≡ length (cond b (x.state ∷ picked es) (picked es))
+    more : (b : Bool) → length (picked (es ++ y ∷ [])) ≡ length (picked es)
+        → length (cond b (x.state ∷ picked (es ++ y ∷ [])) (picked (es ++ y ∷ [])))
+        ≡ length (cond b (x.state ∷ picked es) (picked es))
     more true k = omega (arith, k)
     more false k = k
 
 -- where more than `turns` nodes are tried, all of them are that near
-pub out_of_turns : (C : State → State → Type 0) (h : State → ℕ) (start : State) (es : List Entry) (last turns : ℕ) → Stands C h start es last → turns < length (picked es) → AreManyWithin C start turns last
+pub out_of_turns : (C : State → State → Type 0) (h : State → ℕ) (start : State) (es : List Entry)
+    (last turns : ℕ) → Stands C h start es last → turns < length (picked es)
+    → AreManyWithin C start turns last
 out_of_turns C h start es last turns s many = (
   picked es,
   many,

@@ -1,8 +1,10 @@
 -- The node that is taken from the queue.
-use Rattle.std.proofs.Common.{◌≡◌, ℕ, ◌+◌, ◌<◌, ◌≤◌, Bool, true, false, List, Option, Some, None, slice_get, inl, inr, refl, ap, sym, ◌∙◌, subst, arith}
+use Rattle.std.proofs.Common.{◌≡◌, ℕ, ◌+◌, ◌<◌, ◌≤◌, Bool, true, false, List, Option, Some, None, slice_get}
+use Rattle.std.proofs.Common.{inl, inr, refl, ap, sym, ◌∙◌, subst, arith}
 use Rattle.carton_base.specs.declared.motion.State.{State}
 use Rattle.carton_search.specs.declared.known.Entry.{Entry}
-use Rattle.carton_search.specs.Known.{Reached, HasParent, IsTree, IsClosed, Stands, AllClosed, ClosedBut, Queued, Changed}
+use Rattle.carton_search.specs.Known.{Reached, HasParent, IsTree, IsClosed, Stands, AllClosed, ClosedBut}
+use Rattle.carton_search.specs.Known.{Queued, Changed}
 use Rattle.carton_search.proofs.Lists.{same_get, which}
 use Rattle.carton_search.proofs.Best.{changed_get, changed_kept}
 
@@ -18,9 +20,11 @@ pub record IsMarked (es : List Entry) (place : ℕ) (e y : Entry) : Type 0 where
   pub moves : y.moves ≡ e.moves
   pub parent : y.parent ≡ e.parent
 
-module _ (es new : List Entry) (place : ℕ) (e y : Entry) (c : Changed es new place y) (is : IsMarked es place e y) where
+module _ (es new : List Entry) (place : ℕ) (e y : Entry) (c : Changed es new place y)
+    (is : IsMarked es place e y) where
   elsewhere : (i : ℕ) (x : Entry) → slice_get es i ≡ Some x → x.tried ≡ true → i ≡ place → ⊥
-  elsewhere i x h tried same = apart_tried x.tried tried (ap (λ z. z.tried) (same_get es i place x e same h is.there) ∙ is.waits)
+  elsewhere i x h tried same =
+      apart_tried x.tried tried (ap (λ z. z.tried) (same_get es i place x e same h is.there) ∙ is.waits)
 
   pub reached_marked : (s : State) (m : ℕ) → Reached es s m → Reached new s m
   reached_marked s m r = elim (which r.place place) [
@@ -29,11 +33,26 @@ module _ (es new : List Entry) (place : ℕ) (e y : Entry) (c : Changed es new p
         let few : r.entry.moves ≤ m = r.few in
         let em : r.entry.moves ≡ e.moves = ap (λ z. z.moves) same in
         let ym : y.moves ≡ e.moves = is.moves in
-        record { place = place; entry = y; there = c.at; same = is.state ∙ sym (ap (λ z. z.state) same) ∙ r.same; few = omega (arith, few, em, ym) }
-    | inr n ↦ record { place = r.place; entry = r.entry; there = changed_kept es new place y c r.place r.entry n r.there; same = r.same; few = r.few }
+        record {
+          place = place;
+          entry = y;
+          there = c.at;
+          same = is.state ∙ sym (ap (λ z. z.state) same)
+              ∙ r.same;
+          few = omega (arith, few, em, ym);
+        }
+    | inr n ↦
+        record {
+          place = r.place;
+          entry = r.entry;
+          there = changed_kept es new place y c r.place r.entry n r.there;
+          same = r.same;
+          few = r.few;
+        }
   ]
 
-  pub closed_marked : (S : State → State → Type 0) (target : State) → AllClosed S target es → ClosedBut S target new place
+  pub closed_marked : (S : State → State → Type 0) (target : State) → AllClosed S target es
+      → ClosedBut S target new place
   closed_marked S target k i x n h tried = elim (changed_get es new place y c i x h) [
     | inl a ↦ absurd (n a.0)
     | inr o ↦
@@ -42,9 +61,17 @@ module _ (es new : List Entry) (place : ℕ) (e y : Entry) (c : Changed es new p
   ]
 
   -- the node at the place before
-  was : (i : ℕ) (x : Entry) → slice_get new i ≡ Some x → (w : Entry) × (slice_get es i ≡ Some w) × (w.state ≡ x.state) × (w.moves ≡ x.moves) × (w.parent ≡ x.parent)
+  was : (i : ℕ) (x : Entry) → slice_get new i ≡ Some x → (w : Entry) × (slice_get es i ≡ Some w)
+      × (w.state ≡ x.state) × (w.moves ≡ x.moves) × (w.parent ≡ x.parent)
   was i x h = elim (changed_get es new place y c i x h) [
-    | inl k ↦ (e, ap (slice_get es) k.0 ∙ is.there, sym is.state ∙ sym (ap (λ z. z.state) k.1), sym is.moves ∙ sym (ap (λ z. z.moves) k.1), sym is.parent ∙ sym (ap (λ z. z.parent) k.1))
+    | inl k ↦ (
+      e,
+      ap (slice_get es) k.0 ∙ is.there,
+      sym is.state ∙ sym (ap (λ z. z.state) k.1),
+      sym is.moves
+          ∙ sym (ap (λ z. z.moves) k.1),
+      sym is.parent ∙ sym (ap (λ z. z.parent) k.1),
+    )
     | inr o ↦ (x, o.1, refl, refl, refl)
   ]
 
@@ -65,9 +92,11 @@ module _ (es new : List Entry) (place : ℕ) (e y : Entry) (c : Changed es new p
     marked_parents i x more h =
         let b = was i x h in
         let p : HasParent C es b.0 = t.parents i b.0 more b.1 in
-        let there : slice_get es x.parent ≡ Some p.parent = subst (λ k. slice_get es k ≡ Some p.parent) b.4 p.there in record {
+        let there : slice_get es x.parent ≡ Some p.parent =
+        subst (λ k. slice_get es k ≡ Some p.parent) b.4 p.there in record {
           parent = p.parent;
-          there = changed_kept es new place y c x.parent p.parent (elsewhere x.parent p.parent there p.tried) there;
+          there = changed_kept es new place y c x.parent p.parent (elsewhere x.parent p.parent there p.tried)
+              there;
           tried = p.tried;
           clear = subst (C p.parent.state) b.2 p.clear;
           more = sym b.3 ∙ p.more;
@@ -80,11 +109,14 @@ module _ (es new : List Entry) (place : ℕ) (e y : Entry) (c : Changed es new p
       begins = (first_of first_new).0;
       no_moves = (first_of first_new).1;
       parents = marked_parents;
-      apart = λ i k a b p q same. let u = was i a p in let v = was k b q in t.apart i k u.0 v.0 u.1 v.1 (u.2 ∙ same ∙ sym v.2);
+      apart = λ i k a b p q same. let u = was i a p in let v = was k b q in
+          t.apart i k u.0 v.0 u.1 v.1 (u.2 ∙ same ∙ sym v.2);
     }
 
-  module _ (C : State → State → Type 0) (h : State → ℕ) (start : State) (last p : ℕ) (q r : ℕ → Option ℕ) (dropped : Bool) (s : Stands C h start es last) (k : Queued C h start es q dropped)
-      (taken : q place ≡ Some p) (gone : r place ≡ None) (others : (n : ℕ) → (n ≡ place → ⊥) → r n ≡ q n) (least : (n m : ℕ) → q n ≡ Some m → p ≤ m) where
+  module _ (C : State → State → Type 0) (h : State → ℕ) (start : State) (last p : ℕ) (q r : ℕ → Option ℕ)
+      (dropped : Bool) (s : Stands C h start es last) (k : Queued C h start es q dropped)
+      (taken : q place ≡ Some p) (gone : r place ≡ None) (others : (n : ℕ) → (n ≡ place → ⊥) → r n ≡ q n)
+      (least : (n m : ℕ) → q n ≡ Some m → p ≤ m) where
     pub priority : (p ≡ e.moves + h e.state) × (p ≤ 4095)
     priority =
         let b = k.stands place p taken in

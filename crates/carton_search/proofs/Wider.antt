@@ -13,6 +13,7 @@ module _ (C G : State → State → Type 0) (wider : (a b : State) → C a b →
   path_wider a b (s ∷ rest) h = (h.0, follows_wider a rest h.1, h.2)
 
 -- a path has one state more than moves
-pub path_long : (R : State → State → Type 0) (a b : State) (p : List State) → IsPath R a b p → moves_of p + 1 ≡ length p
+pub path_long : (R : State → State → Type 0) (a b : State) (p : List State) → IsPath R a b p
+    → moves_of p + 1 ≡ length p
 path_long R a b [] h = absurd h
 path_long R a b (s ∷ rest) h = omega arith

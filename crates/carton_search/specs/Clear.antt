@@ -13,7 +13,8 @@ use Rattle.carton_steps.specs.Steps.{IsGridStep}
 abbrev pub folds_between : State → State → ℕ → ℕ → ℕ → Fold
 folds_between a b n d k = joint_fold (stop_of a k) (stop_of b k) a.grid n d
 
--- at every moment of the move from a to b all panels that share no crease are parted by more than so many halves
+-- at every moment of the move from a to b all panels that share no crease are parted by more than so many
+-- halves
 unfoldable pub StayApart : Tree → ℤ → State → State → Type 0
 StayApart carton halves a b = AtEachMoment (λ n d. AreAllParted carton (folds_between a b n d) halves)
 

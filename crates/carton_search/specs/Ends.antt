@@ -12,7 +12,8 @@ use Rattle.carton_text.specs.declared.task.Task.{Task}
 use Rattle.carton_search.specs.Clear.{ClearStep, AreApart}
 use Rattle.carton_search.specs.Paths.{IsPath, moves_of, IsSlackPath, AreManyWithin, HasFarPath}
 use Rattle.carton_search.specs.declared.search_end.SearchEnd.{SearchEnd}
-use Rattle.carton_search.specs.declared.search_end.SearchEnd.TheVariants.{Found, StartBlocked, NoPath, OutOfTurns, Memory}
+use Rattle.carton_search.specs.declared.search_end.SearchEnd.TheVariants.{Found, StartBlocked, NoPath}
+use Rattle.carton_search.specs.declared.search_end.SearchEnd.TheVariants.{OutOfTurns, Memory}
 
 abbrev pub IfFound : SearchEnd → (Plan → Type 0) → Type 0
 IfFound (Found plan) P = P plan
@@ -35,10 +36,12 @@ IsFoundOrMemory (Found plan) = Unit {0}
 IsFoundOrMemory Memory = Unit {0}
 IsFoundOrMemory _ = ⊥
 
--- why a search runs out of turns at so many moves: more different states than turns are that near, or the moves are one more than a plan
+-- why a search runs out of turns at so many moves: more different states than turns are that near, or the
+-- moves are one more than a plan
 -- may have, and a path of more than 3000 different states begins at the start
 abbrev pub IsTurnsCause : Task → Tree → ℕ → Type 0
-IsTurnsCause task carton moves = AreManyWithin (ClearStep task carton) task.start task.turns moves ⊎ ((moves ≡ 4096) × HasFarPath (ClearStep task carton) task.start)
+IsTurnsCause task carton moves = AreManyWithin (ClearStep task carton) task.start task.turns moves
+    ⊎ ((moves ≡ 4096) × HasFarPath (ClearStep task carton) task.start)
 
 -- what a found plan is: it keeps its rules where the task's creases keep theirs
 abbrev pub IsPlanFor : Task → Plan → Type 0
@@ -46,7 +49,8 @@ IsPlanFor task plan = (plan.creases ≡ task.creases) × (AreCreases task.crease
 
 -- clear steps from the start to the target, not more than a plan may have
 abbrev pub IsClearPath : Task → Tree → List State → Type 0
-IsClearPath task carton states = IsPath (ClearStep task carton) task.start task.target states × (length states ≤ MOST_STATES)
+IsClearPath task carton states = IsPath (ClearStep task carton) task.start task.target states
+    × (length states ≤ MOST_STATES)
 
 -- no slack path has fewer states
 abbrev pub IsShortest : Task → Tree → List State → Type 0
@@ -54,7 +58,8 @@ IsShortest task carton states = (p : List State) → IsSlackPath task carton p �
 
 -- panels a and b share no crease, and aren't parted by more than half the slack in the state
 abbrev pub AreBlockedAt : Task → Tree → State → ℕ → ℕ → Type 0
-AreBlockedAt task carton s a b = AreStrangers carton a b × ¬ (ArePartedBy carton (fold_in s) a b (pos task.slack))
+AreBlockedAt task carton s a b = AreStrangers carton a b
+    × ¬ (ArePartedBy carton (fold_in s) a b (pos task.slack))
 
 -- what an end says
 pub record IsEnd (task : Task) (carton : Tree) (end : SearchEnd) : Type 0 where

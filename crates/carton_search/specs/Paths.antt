@@ -37,17 +37,23 @@ ReachedBy R a most b = (p : List State) × IsPath R a b p × (moves_of p ≤ mos
 abbrev pub AllReachedBy : (State → State → Type 0) → State → ℕ → List State → Type 0
 AllReachedBy R a most xs = (i : ℕ) (s : State) → slice_get xs i ≡ Some s → ReachedBy R a most s
 
--- a path from the start to the target on which all panels that share no crease stay parted by more than the slack
+-- a path from the start to the target on which all panels that share no crease stay parted by more than the
+-- slack
 abbrev pub IsSlackPath : Task → Tree → List State → Type 0
-IsSlackPath task carton p = IsPath (SlackStep task carton) task.start task.target p × AreApart carton (slack_of task) task.start
+IsSlackPath task carton p = IsPath (SlackStep task carton) task.start task.target p
+    × AreApart carton (slack_of task) task.start
 
--- so many moves are within the budget: at most as many states as there are turns are reached by them, clear or not
+-- so many moves are within the budget: at most as many states as there are turns are reached by them, clear
+-- or not
 abbrev pub IsWithinTurns : Task → ℕ → Type 0
-IsWithinTurns task moves = (moves ≤ 4095) × ((xs : List State) → AreDifferent xs → AllReachedBy (IsGridStep task) task.start moves xs → length xs ≤ task.turns)
+IsWithinTurns task moves =
+    (moves ≤ 4095) × ((xs : List State) → AreDifferent xs → AllReachedBy (IsGridStep task) task.start moves xs
+    → length xs ≤ task.turns)
 
 -- more different states than there are turns are reached by so many clear steps
 abbrev pub AreManyWithin : (State → State → Type 0) → State → ℕ → ℕ → Type 0
-AreManyWithin C start turns moves = (xs : List State) × (turns < length xs) × AreDifferent xs × AllReachedBy C start moves xs
+AreManyWithin C start turns moves = (xs : List State) × (turns < length xs) × AreDifferent xs
+    × AllReachedBy C start moves xs
 
 -- a path of more than 3000 different states begins at the start
 abbrev pub HasFarPath : (State → State → Type 0) → State → Type 0

@@ -38,19 +38,23 @@ pub record HasRoom (task : Task) (k : Knowledge) : Type 0 where
 
 -- the queue has what waits
 abbrev pub IsQueued : Task → Tree → Knowledge → Type 0
-IsQueued task carton k = Queued (ClearStep task carton) (estimate_of task) task.start k.entries (priority_of k.waiting) k.dropped
+IsQueued task carton k = Queued (ClearStep task carton) (estimate_of task) task.start k.entries
+    (priority_of k.waiting) k.dropped
 
 -- the first so many steps of an entry have been tried, in the turn of that count
-pub record Trying (task : Task) (carton : Tree) (k : Knowledge) (number : ℕ) (entry : Entry) (count tries : ℕ) : Type 0 where
+pub record Trying (task : Task) (carton : Tree) (k : Knowledge) (number : ℕ) (entry : Entry)
+    (count tries : ℕ) : Type 0 where
   pub room : HasRoom task k
   pub there : slice_get k.entries number ≡ Some entry
   pub tried : entry.tried ≡ true
   pub few : entry.moves + estimate_of task entry.state ≤ 4095
   pub other : entry.state ≡ task.target → ⊥
-  pub stands : Stands (ClearStep task carton) (estimate_of task) task.start k.entries (entry.moves + estimate_of task entry.state)
+  pub stands : Stands (ClearStep task carton) (estimate_of task) task.start k.entries
+      (entry.moves + estimate_of task entry.state)
   pub queued : IsQueued task carton k
   pub closed : ClosedBut (SlackStep task carton) task.target k.entries number
-  pub steps : (i : ℕ) (b : State) → i < tries → step_of task entry.state i ≡ Some b → StayApart carton (slack_of task) entry.state b → Reached k.entries b (entry.moves + 1)
+  pub steps : (i : ℕ) (b : State) → i < tries → step_of task entry.state i ≡ Some b
+      → StayApart carton (slack_of task) entry.state b → Reached k.entries b (entry.moves + 1)
   pub picks : length (picked k.entries) ≡ count
   pub long : length k.entries + steps_of task ≤ 1 + steps_of task * count + tries
   pub turns : count ≤ task.turns
@@ -71,7 +75,8 @@ pub record Going (task : Task) (carton : Tree) (k : Knowledge) (turns last : ℕ
 
 -- no path that is clear by the slack has fewer moves
 abbrev pub AreLeast : Task → Tree → ℕ → Type 0
-AreLeast task carton moves = (p : List State) → IsPath (SlackStep task carton) task.start task.target p → moves ≤ moves_of p
+AreLeast task carton moves = (p : List State) → IsPath (SlackStep task carton) task.start task.target p
+    → moves ≤ moves_of p
 
 -- the target was found, by a path of clear steps, with fewest moves
 pub record IsArrival (task : Task) (carton : Tree) (k : Knowledge) (number : ℕ) : Type 0 where

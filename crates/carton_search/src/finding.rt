@@ -4,7 +4,9 @@ ghost use Rattle.carton_tree.specs.Trees.{Tree};
 ghost use Rattle.carton_text.specs.TaskRules.{IsTask};
 ghost use Rattle.carton_search.specs.Clear.{AreApart};
 ghost use Rattle.carton_search.specs.Paths.{IsSlackPath, IsWithinTurns, moves_of};
-ghost use Rattle.carton_search.specs.Ends.{IfFound, IfStartBlocked, IfNoPath, IfOutOfTurns, IsFoundOrMemory, IsTurnsCause, IsPlanFor, IsClearPath, IsShortest, AreBlockedAt, IsEnd};
+ghost use Rattle.carton_search.specs.Ends.{IfFound, IfStartBlocked, IfNoPath, IfOutOfTurns, IsFoundOrMemory};
+ghost use Rattle.carton_search.specs.Ends.{IsTurnsCause, IsPlanFor, IsClearPath, IsShortest, AreBlockedAt};
+ghost use Rattle.carton_search.specs.Ends.{IsEnd};
 ghost use Rattle.carton_search.specs.Knowledge.{IsBlank};
 ghost use Rattle.carton_search.specs.Turns.{Suits, Going, room_of};
 
@@ -100,11 +102,14 @@ pub fn search<J: Judge>(alloc: Global, task: &Task, judge: &mut J) -> SearchEnd
     ensures found_start { IfFound result (λ plan. AreApart (J.carton judge.old) (pos 0) task.now.start) }
     ensures found_least { IfFound result (λ plan. IsShortest task.now (J.carton judge.old) plan.states) }
     ensures found_still { IfFound result (λ plan. task.now.start ≡ task.now.target → length plan.states ≡ 1) }
-    ensures start_blocked { IfStartBlocked result (λ a b. AreBlockedAt task.now (J.carton judge.old) task.now.start a.0 b.0) }
+    ensures start_blocked { IfStartBlocked result
+        (λ a b. AreBlockedAt task.now (J.carton judge.old) task.now.start a.0 b.0) }
     ensures no_path { IfNoPath result ((p : List State) → IsSlackPath task.now (J.carton judge.old) p → ⊥) }
-    ensures turns_few { IfOutOfTurns result (λ moves. (p : List State) → IsSlackPath task.now (J.carton judge.old) p → moves ≤ moves_of p) }
+    ensures turns_few { IfOutOfTurns result (λ moves. (p : List State)
+        → IsSlackPath task.now (J.carton judge.old) p → moves ≤ moves_of p) }
     ensures turns_cause { IfOutOfTurns result (IsTurnsCause task.now (J.carton judge.old)) }
-    ensures budget { (p : List State) → IsSlackPath task.now (J.carton judge.old) p → IsWithinTurns task.now (moves_of p) → IsFoundOrMemory result }
+    ensures budget { (p : List State) → IsSlackPath task.now (J.carton judge.old) p
+        → IsWithinTurns task.now (moves_of p) → IsFoundOrMemory result }
     ensures carton { J.carton judge.new ≡ J.carton judge.old }
     ensures slack { J.slack judge.new ≡ J.slack judge.old }
 {

@@ -1,4 +1,5 @@
-ghost use Rattle.std.specs.Prelude.{◌≡◌, ◌+◌, ◌<◌, ◌≤◌, ◌^◌, ◌∷◌, ◌++◌, [], Some, None, length, slice_get, slice_set, OnOk, IfOk, MatchOption, MatchBool};
+ghost use Rattle.std.specs.Prelude.{◌≡◌, ◌+◌, ◌<◌, ◌≤◌, ◌^◌, ◌∷◌, ◌++◌, [], Some, None, length, slice_get};
+ghost use Rattle.std.specs.Prelude.{slice_set, OnOk, IfOk, MatchOption, MatchBool};
 ghost use Rattle.carton_queue.specs.Waits.{nodes_of, priority_of, with_entry, IsLeast, IsEmpty};
 ghost use Rattle.carton_search.specs.declared.known.Entry.{Entry};
 ghost use Rattle.carton_search.specs.Known.{Has, IsNumberOf};
@@ -58,7 +59,11 @@ impl Model for Known {
 
     ghost Value = { Knowledge };
 
-    ghost view = { λ k. record { entries = entries_of k.states.keys k.nodes.items; waiting = k.waiting; dropped = k.dropped } };
+    ghost view = { λ k. record {
+      entries = entries_of k.states.keys k.nodes.items;
+      waiting = k.waiting;
+      dropped = k.dropped;
+    } };
 
     ghost invariant = { λ k. length k.states.keys ≡ length k.nodes.items };
 }
@@ -110,7 +115,8 @@ impl Known {
         requires new { Has self.old.entries entry.state → ⊥ }
         requires room { length self.old.entries < 2 ^ 32 }
         ensures number { IfOk result (λ n. n ≡ length self.old.entries) }
-        ensures added { OnOk result (self.new ≡ record self.old { entries = self.old.entries ++ entry ∷ [] }) }
+        ensures added { OnOk result
+            (self.new ≡ record self.old { entries = self.old.entries ++ entry ∷ [] }) }
     {
         let number = self.nodes.len() as u32;
         self.nodes.reserve(1)?;
@@ -166,8 +172,10 @@ impl Known {
 
     // Takes out a state with least priority, and gives its number and that priority.
     pub fn take(&mut self) -> Option<(u32, u32)>
-        ensures least { MatchOption result (IsEmpty self.old.waiting) (λ r. IsLeast self.old.waiting r.0 r.1) }
-        ensures rest { MatchOption result (self.new ≡ self.old) (λ r. self.new ≡ record self.old { waiting = with_entry self.old.waiting r.0 None }) }
+        ensures least { MatchOption result (IsEmpty self.old.waiting)
+            (λ r. IsLeast self.old.waiting r.0 r.1) }
+        ensures rest { MatchOption result (self.new ≡ self.old)
+            (λ r. self.new ≡ record self.old { waiting = with_entry self.old.waiting r.0 None }) }
     {
         self.waiting.take_least()
     }

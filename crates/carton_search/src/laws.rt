@@ -9,5 +9,6 @@ ghost use Rattle.carton_search.specs.Ends.{IsEnd, IsFoundOrMemory};
 /// By what the ends say alone a search finds a plan where a slack path is within the budget of turns,
 /// unless memory runs out.
 pub fn budget_law()
-    ensures { (task : Task) (carton : Tree) (end : SearchEnd) → IsEnd task carton end → (p : List State) → IsSlackPath task carton p → IsWithinTurns task (moves_of p) → IsFoundOrMemory end }
+    ensures { (task : Task) (carton : Tree) (end : SearchEnd) → IsEnd task carton end → (p : List State)
+        → IsSlackPath task carton p → IsWithinTurns task (moves_of p) → IsFoundOrMemory end }
 {}

@@ -12,7 +12,9 @@ pub fn path_to(known: &Known, number: u32, path: Vec<State>) -> Result<Vec<State
     requires tree { (s : State) × IsTree (IsParent known.now.entries) s known.now.entries }
     requires within { number < length known.now.entries }
     requires empty { path.items ≡ [] }
-    ensures { IfOk result (λ v. (s : State) (e : Entry) → IsTree (IsParent known.now.entries) s known.now.entries → slice_get known.now.entries number ≡ Some e
+    ensures { IfOk result (λ v. (s : State) (e : Entry)
+        → IsTree (IsParent known.now.entries) s known.now.entries → slice_get known.now.entries number
+        ≡ Some e
         → IsPath (IsParent known.now.entries) s e.state v.items × (length v.items ≡ e.moves + 1)) }
 {
     let mut path = path;

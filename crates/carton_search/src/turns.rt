@@ -35,7 +35,12 @@ fn at_step(turn: &Turn, step: u8) -> Turn
 // What is known of a state to which the turn leads.
 fn next_entry(turn: &Turn, to: &State) -> Entry
     requires { turn.now.entry.moves < 4096 }
-    ensures { result ≡ record { state = to.now; parent = turn.now.number; moves = turn.now.entry.moves + 1; tried = false } }
+    ensures { result ≡ record {
+      state = to.now;
+      parent = turn.now.number;
+      moves = turn.now.entry.moves + 1;
+      tried = false;
+    } }
 {
     Entry {
         state: *to,
@@ -59,7 +64,8 @@ fn find_new<J: Judge>(
     requires to { step_of task.now turn.now.entry.state turn.now.step ≡ Some to.now }
     requires moves { IsMove (length task.now.creases) turn.now.entry.state to.now }
     requires new { Has known.old.entries to.now → ⊥ }
-    ensures trying { OnOk result (AreTried task.now (J.carton judge.old) known.new turn.now (turn.now.step + 1)) }
+    ensures trying { OnOk result (AreTried task.now (J.carton judge.old) known.new turn.now
+        (turn.now.step + 1)) }
     ensures carton { J.carton judge.new ≡ J.carton judge.old }
     ensures slack { J.slack judge.new ≡ J.slack judge.old }
 {
@@ -118,7 +124,8 @@ fn try_step<J: Judge>(
     requires suits { Suits task.now (J.carton judge.old) (J.slack judge.old) }
     requires trying { AreTried task.now (J.carton judge.old) known.old turn.now turn.now.step }
     requires less { turn.now.step < steps_of task.now }
-    ensures trying { OnOk result (AreTried task.now (J.carton judge.old) known.new turn.now (turn.now.step + 1)) }
+    ensures trying { OnOk result (AreTried task.now (J.carton judge.old) known.new turn.now
+        (turn.now.step + 1)) }
     ensures carton { J.carton judge.new ≡ J.carton judge.old }
     ensures slack { J.slack judge.new ≡ J.slack judge.old }
 {
@@ -144,7 +151,8 @@ pub fn try_steps<J: Judge>(
 ) -> Result<(), OutOfMemory>
     requires suits { Suits task.now (J.carton judge.old) (J.slack judge.old) }
     requires trying { AreTried task.now (J.carton judge.old) known.old turn.now 0 }
-    ensures trying { OnOk result (AreTried task.now (J.carton judge.old) known.new turn.now (steps_of task.now)) }
+    ensures trying { OnOk result (AreTried task.now (J.carton judge.old) known.new turn.now
+        (steps_of task.now)) }
     ensures carton { J.carton judge.new ≡ J.carton judge.old }
     ensures slack { J.slack judge.new ≡ J.slack judge.old }
 {

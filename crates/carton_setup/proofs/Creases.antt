@@ -17,17 +17,20 @@ use Rattle.carton_text.specs.declared.job_error.JobError.{JobError}
 use Rattle.carton_text.specs.declared.job_error.JobError.TheVariants.{NoAngles, Memory}
 use Rattle.carton_text.specs.declared.task.Task.{Task}
 
-pub is_carton : (m : ℕ) (d : RawDieline) (root : ℕ) (r : Result Tree TreeError) → IsTreeAnswer m d root r → IfOk r IsCarton
+pub is_carton : (m : ℕ) (d : RawDieline) (root : ℕ) (r : Result Tree TreeError) → IsTreeAnswer m d root r
+    → IfOk r IsCarton
 is_carton m d root (Ok t) h = h.3.carton
 is_carton m d root (Err e) h = tt
 
 -- its free joints keep the rules of a plan's
-pub has_plan_creases : (m : ℕ) (d : RawDieline) (root : ℕ) (r : Result Tree TreeError) → IsDieline d → IsTreeAnswer m d root r → IfOk r (λ t. AreCreases t.creases)
+pub has_plan_creases : (m : ℕ) (d : RawDieline) (root : ℕ) (r : Result Tree TreeError) → IsDieline d
+    → IsTreeAnswer m d root r → IfOk r (λ t. AreCreases t.creases)
 has_plan_creases m d root (Ok t) dieline h = plan_creases m d root t dieline h.3
 has_plan_creases m d root (Err e) dieline h = tt
 
 -- the joints of a task are those of the carton
-same_creases : (t : Tree) (d : RawDieline) (job : Job) (o : Outline) → task_for t d job ≡ Ok o → o.creases ≡ t.creases
+same_creases : (t : Tree) (d : RawDieline) (job : Job) (o : Outline) → task_for t d job ≡ Ok o
+    → o.creases ≡ t.creases
 unfolding task_of
 same_creases t d job o told =
     let known = both (only_joints t.creases (locked_joints t) job) _ o told in
@@ -37,6 +40,7 @@ same_creases t d job o told =
     let made = same_ok _ o _ refl teams.2 in
     sym (ap (λ (x : Outline). x.creases) made)
 
-pub fitted_creases : (t : Tree) (d : RawDieline) (job : Job) (r : Result Task JobError) → Gives Memory outline r (task_for t d job) → IfOk r (λ task. task.creases ≡ t.creases)
+pub fitted_creases : (t : Tree) (d : RawDieline) (job : Job) (r : Result Task JobError)
+    → Gives Memory outline r (task_for t d job) → IfOk r (λ task. task.creases ≡ t.creases)
 fitted_creases t d job (Ok task) h = same_creases t d job (outline task) h
 fitted_creases t d job (Err e) h = tt

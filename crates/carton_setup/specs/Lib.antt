@@ -1,6 +1,8 @@
+pub mod Commands
 pub mod Files
 pub mod Outcomes
 pub mod Printed
+pub mod Proposals
 pub mod Refusals
 pub mod Rules
 pub mod Setups

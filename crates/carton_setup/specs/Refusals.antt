@@ -1,24 +1,38 @@
 -- The text of each refusal of a file.
 use Rattle.std.specs.Prelude.{ℕ, List, ◌++◌, codes}
 use Rattle.carton_catalogue.specs.declared.catalogue_error.CatalogueError.{CatalogueError}
-use Rattle.carton_catalogue.specs.declared.catalogue_error.CatalogueError.TheVariants.{Line as CatalogueLine, NoGuide, Memory as NoMemoryForCatalogue}
+use Rattle.carton_catalogue.specs.declared.catalogue_error.CatalogueError.TheVariants.{Line as CatalogueLine}
+use Rattle.carton_catalogue.specs.declared.catalogue_error.CatalogueError.TheVariants.{NoGuide}
+use Rattle.carton_catalogue.specs.declared.catalogue_error.CatalogueError.TheVariants.{Memory as NoMemoryForCatalogue}
 use Rattle.carton_catalogue.specs.declared.fit_error.FitError.{FitError}
-use Rattle.carton_catalogue.specs.declared.fit_error.FitError.TheVariants.{OtherCreases, NotAJoint as NoJointOfGuide, BadWindow, BandTooWide, ProbeOutside}
+use Rattle.carton_catalogue.specs.declared.fit_error.FitError.TheVariants.{OtherCreases}
+use Rattle.carton_catalogue.specs.declared.fit_error.FitError.TheVariants.{NotAJoint as NoJointOfGuide}
+use Rattle.carton_catalogue.specs.declared.fit_error.FitError.TheVariants.{BadWindow, BandTooWide}
+use Rattle.carton_catalogue.specs.declared.fit_error.FitError.TheVariants.{ProbeOutside}
 use Rattle.carton_fold.specs.Values.{name_of}
 use Rattle.carton_fold.specs.declared.error.FoldError.{FoldError}
-use Rattle.carton_fold.specs.declared.error.FoldError.TheVariants.{NotJson, NotObject, Missing, BadShape, TooMany, NotWhole, TooFar, NotFlat, BadVertex, BadLetter, JoinEdge, Memory}
+use Rattle.carton_fold.specs.declared.error.FoldError.TheVariants.{NotJson, NotObject, Missing, BadShape}
+use Rattle.carton_fold.specs.declared.error.FoldError.TheVariants.{TooMany, NotWhole, TooFar, NotFlat}
+use Rattle.carton_fold.specs.declared.error.FoldError.TheVariants.{BadVertex, BadLetter, JoinEdge, Memory}
 use Rattle.carton_panels.specs.declared.error.PanelError.{PanelError}
-use Rattle.carton_panels.specs.declared.error.PanelError.TheVariants.{RepeatedVertex, NotConvex, TooThin, Memory as NoMemoryForPanel}
+use Rattle.carton_panels.specs.declared.error.PanelError.TheVariants.{RepeatedVertex, NotConvex, TooThin}
+use Rattle.carton_panels.specs.declared.error.PanelError.TheVariants.{Memory as NoMemoryForPanel}
 use Rattle.carton_lines.specs.declared.fault.LineError.{LineError}
-use Rattle.carton_lines.specs.declared.fault.LineError.TheVariants.{BadLine, Range, Duplicate, NoEnd, Memory as NoMemoryForLine}
+use Rattle.carton_lines.specs.declared.fault.LineError.TheVariants.{BadLine, Range, Duplicate, NoEnd}
+use Rattle.carton_lines.specs.declared.fault.LineError.TheVariants.{Memory as NoMemoryForLine}
 use Rattle.carton_text.specs.declared.job_error.JobError.{JobError}
-use Rattle.carton_text.specs.declared.job_error.JobError.TheVariants.{NotAJoint, LockedEdge, NoAngles, AngleNotExact, EmptyTeam, TooManyTeams, Memory as NoMemoryForTask}
+use Rattle.carton_text.specs.declared.job_error.JobError.TheVariants.{NotAJoint, LockedEdge, NoAngles}
+use Rattle.carton_text.specs.declared.job_error.JobError.TheVariants.{AngleNotExact, EmptyTeam, TooManyTeams}
+use Rattle.carton_text.specs.declared.job_error.JobError.TheVariants.{Memory as NoMemoryForTask}
 use Rattle.carton_tree.specs.declared.error.TreeError.{TreeError}
-use Rattle.carton_tree.specs.declared.error.TreeError.TheVariants.{Panel as NoPanel, SideNoEdge, ThreeFaces, SameSide, Slanted, Loop, NoRoot, Apart, TooDeep, Memory as NoMemoryForTree}
+use Rattle.carton_tree.specs.declared.error.TreeError.TheVariants.{Panel as NoPanel, SideNoEdge, ThreeFaces}
+use Rattle.carton_tree.specs.declared.error.TreeError.TheVariants.{SameSide, Slanted, Loop, NoRoot, Apart}
+use Rattle.carton_tree.specs.declared.error.TreeError.TheVariants.{TooDeep, Memory as NoMemoryForTree}
 use Rattle.carton_words.specs.Kinds.{kind_text}
 use Rattle.carton_setup.specs.Printed.{line, spaced}
 use Rattle.carton_setup.specs.declared.refusal.Rule.{Rule}
-use Rattle.carton_setup.specs.declared.refusal.Rule.TheVariants.{TooLong, Fold, Panel, Tree, Line, Fit, Catalogue as CatalogueRule, Guides}
+use Rattle.carton_setup.specs.declared.refusal.Rule.TheVariants.{TooLong, Fold, Panel, Tree, Line, Fit}
+use Rattle.carton_setup.specs.declared.refusal.Rule.TheVariants.{Catalogue as CatalogueRule, Guides}
 use Rattle.carton_setup.specs.declared.refusal.BadFile.{BadFile}
 
 -- the rule of a dieline's text that fails; want of memory is never printed
@@ -86,7 +100,8 @@ guides_text OtherCreases = codes "other creases"
 guides_text (NoJointOfGuide guide) = codes "not a joint guide" ++ spaced guide
 guides_text (BadWindow guide) = codes "bad window guide" ++ spaced guide
 guides_text (BandTooWide guide) = codes "band too wide guide" ++ spaced guide
-guides_text (ProbeOutside guide probe) = codes "probe outside guide" ++ spaced guide ++ (codes " probe" ++ spaced probe)
+guides_text (ProbeOutside guide probe) =
+    codes "probe outside guide" ++ spaced guide ++ (codes " probe" ++ spaced probe)
 
 -- the rule that a file breaks
 abbrev pub rule_text : Rule → List ℕ

@@ -14,7 +14,8 @@ use Rattle.carton_text.specs.declared.job_error.JobError.TheVariants.{Memory as 
 use Rattle.carton_tree.specs.declared.error.TreeError.{TreeError}
 use Rattle.carton_tree.specs.declared.error.TreeError.TheVariants.{Memory as NoMemoryForTree}
 use Rattle.carton_setup.specs.declared.refusal.Rule.{Rule}
-use Rattle.carton_setup.specs.declared.refusal.Rule.TheVariants.{Fold, Panel, Tree, Line, Fit, Catalogue, Guides}
+use Rattle.carton_setup.specs.declared.refusal.Rule.TheVariants.{Fold, Panel, Tree, Line, Fit, Catalogue}
+use Rattle.carton_setup.specs.declared.refusal.Rule.TheVariants.{Guides}
 
 abbrev pub fold_rule : FoldError → Option Rule
 fold_rule NoMemoryForDieline = None

@@ -1,4 +1,5 @@
--- What the commands that read a dieline and a job begin with: the carton, and the task on it, or the first file that is refused.
+-- What the commands that read a dieline and a job begin with: the carton, and the task on it, or the first
+-- file that is refused.
 use Rattle.std.specs.Prelude.{◌≡◌, ℕ, List}
 use Rattle.carton_base.specs.declared.dieline.RawDieline.{RawDieline}
 use Rattle.carton_base.specs.declared.motion.State.{State}
@@ -47,7 +48,8 @@ cartons d j = results Dieline tree_rule (IsTreeAnswer j.margin d j.root)
 abbrev pub tasks : Tree → RawDieline → Job → Outcomes Task
 tasks t d j = reads JobFile fit_rule NoMemoryForTask outline (task_for t d j)
 
--- the carton and the task for the bytes of the files: faults are looked for in the text of the dieline, in that of the job,
+-- the carton and the task for the bytes of the files: faults are looked for in the text of the dieline, in
+-- that of the job,
 -- in the tree and in the job's fit
 abbrev pub setups : List (List ℕ) → Outcomes Setup
 setups files = do
@@ -57,7 +59,8 @@ setups files = do
   task ← tasks t d j
   gives (record { carton = t; task = task })
 
--- the carton and the task keep their rules, the joints of the task are those of the carton, and a plan may have them
+-- the carton and the task keep their rules, the joints of the task are those of the carton, and a plan may
+-- have them
 pub record IsRight (s : Setup) : Type 0 where
   pub carton : IsCarton s.carton
   pub task : IsTask s.task

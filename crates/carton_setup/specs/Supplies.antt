@@ -1,4 +1,5 @@
--- What the commands that read a catalogue begin with: the carton, the task, the plan and the catalogue, or the first file that is refused.
+-- What the commands that read a catalogue begin with: the carton, the task, the plan and the catalogue, or
+-- the first file that is refused.
 use Rattle.std.specs.Prelude.{ℕ, List}
 use Rattle.carton_catalogue.specs.CatalogueRules.{IsCatalogue}
 use Rattle.carton_catalogue.specs.Catalogues.{catalogue_of}
@@ -11,7 +12,8 @@ use Rattle.carton_words.specs.declared.kinds.FileKind.TheVariants.{Catalogue as 
 use Rattle.carton_setup.specs.Files.{file_at}
 use Rattle.carton_setup.specs.Outcomes.{Outcomes, ◌>>=◌, gives, results, reads}
 use Rattle.carton_setup.specs.Rules.{catalogue_rule, guides_rule}
-use Rattle.carton_setup.specs.Setups.{setups, plans, IsRight}
+use Rattle.carton_setup.specs.Proposals.{proposals}
+use Rattle.carton_setup.specs.Setups.{IsRight}
 use Rattle.carton_setup.specs.declared.setup.Setup.{Setup}
 use Rattle.carton_setup.specs.declared.supply.Supply.{Supply}
 
@@ -25,14 +27,14 @@ fitted s p c = do
   fits ← results {X = Unit {0}} CatalogueFile guides_rule (IsFit s.carton s.task p c)
   gives (record { setup = s; plan = p; catalogue = c })
 
--- the carton, the task, the plan and the catalogue for the bytes of the files: after those of setting up, faults are looked for in the
--- text of the plan, in that of the catalogue and in its fit
+-- the carton, the task, the plan and the catalogue for the bytes of the files: after those of a proposal,
+-- faults are
+-- looked for in the text of the catalogue and in its fit
 abbrev pub supplies : List (List ℕ) → Outcomes Supply
 supplies files = do
-  s ← setups files
-  p ← plans files
+  p ← proposals files
   c ← catalogues files
-  fitted s p c
+  fitted p.setup p.plan c
 
 -- they keep their rules, and the catalogue fits
 pub record IsFitted (s : Supply) : Type 0 where

@@ -1,4 +1,5 @@
-ghost use Rattle.carton_setup.specs.Rules.{fold_rule, panel_rule, tree_rule, line_rule, fit_rule, catalogue_rule, guides_rule};
+ghost use Rattle.carton_setup.specs.Rules.{fold_rule, panel_rule, tree_rule, line_rule, fit_rule};
+ghost use Rattle.carton_setup.specs.Rules.{catalogue_rule, guides_rule};
 
 use crate::breach::Breach;
 use crate::refusal::Rule;

@@ -86,7 +86,8 @@ fn task_in(alloc: Global, carton: &Carton, raw: &RawDieline, job: &Job) -> Resul
     accept(FileKind::Job, job_for(alloc, carton, raw, job))
 }
 
-/// What the bytes of the first two files, a dieline and a job, give. Faults are looked for in this order: the text of
+/// What the bytes of the first two files, a dieline and a job, give. Faults are looked for in this
+/// order: the text of
 /// the dieline, the text of the job, the tree of the panels, and that the job fits.
 pub fn set_up(alloc: Global, files: &[Listed<u8>]) -> Result<Setup, Refusal>
     ensures sets_up { IsOutcome (setups files.now) result }

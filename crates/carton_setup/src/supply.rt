@@ -7,8 +7,9 @@ ghost use Rattle.carton_setup.specs.Supplies.{catalogues, fitted as fitted_of, s
 
 use crate::accepting::accept;
 use crate::files::bytes_at;
+use crate::proposal::{Proposal, proposal_from};
 use crate::refusal::Refusal;
-use crate::setup::{Setup, plan_in, set_up};
+use crate::setup::Setup;
 use carton_base::Listed;
 use carton_catalogue::{Catalogue, fit_catalogue, read_catalogue};
 use carton_text::Plan;
@@ -54,14 +55,12 @@ fn fitted(setup: Setup, plan: Plan, catalogue: Catalogue) -> Result<Supply, Refu
 }
 
 /// What the bytes of the first four files, a dieline, a job, a plan and a catalogue, give. After those of
-/// setting up, faults are looked for in this order: the text of the plan, the text of the catalogue, and
-/// that it fits.
+/// a proposal, faults are looked for in this order: the text of the catalogue, and that it fits.
 pub fn supply_from(alloc: Global, files: &[Listed<u8>]) -> Result<Supply, Refusal>
     ensures supplies { IsOutcome (supplies files.now) result }
     ensures keeps_rules { IfOk result IsFitted }
 {
-    let setup = set_up(alloc, files)?;
-    let plan = plan_in(alloc, files)?;
+    let Proposal { setup, plan } = proposal_from(alloc, files)?;
     let catalogue = catalogue_in(alloc, files)?;
     fitted(setup, plan, catalogue)
 }

@@ -1,5 +1,9 @@
 ghost use Rattle.std.specs.Prelude.{◌≡◌, IfOk, string_bytes};
-ghost use Rattle.carton_setup.specs.Refusals.{fold_text as fold_text_of, panel_text as panel_text_of, tree_text as tree_text_of, line_text as line_text_of, fit_text as fit_text_of, catalogue_text as catalogue_text_of, guides_text as guides_text_of, rule_text as rule_text_of, refusal_text as refusal_text_of};
+ghost use Rattle.carton_setup.specs.Refusals.{fold_text as fold_text_of, panel_text as panel_text_of};
+ghost use Rattle.carton_setup.specs.Refusals.{tree_text as tree_text_of, line_text as line_text_of};
+ghost use Rattle.carton_setup.specs.Refusals.{fit_text as fit_text_of, catalogue_text as catalogue_text_of};
+ghost use Rattle.carton_setup.specs.Refusals.{guides_text as guides_text_of, rule_text as rule_text_of};
+ghost use Rattle.carton_setup.specs.Refusals.{refusal_text as refusal_text_of};
 
 use crate::refusal::{BadFile, Rule};
 use carton_base::{EdgeId, PanelId};

@@ -11,12 +11,18 @@ use Rattle.carton_steps.specs.Steps.{members_of}
 use Rattle.carton_steps.proofs.Lists.{at_team, at_each_team}
 
 -- the members of a team are joints of the task
-pub members_within : (t : Task) (team : ℕ) → IsTask t → AllByRecursion (λ k. k < length t.creases) (members_of t team)
-members_within t team rules = at_team (λ k. k < length t.creases) t.teams team (recursion_from_All (λ k. k < length t.creases) (all_places t.teams) rules.teams.each)
+pub members_within : (t : Task) (team : ℕ) → IsTask t
+    → AllByRecursion (λ k. k < length t.creases) (members_of t team)
+members_within t team rules =
+    at_team (λ k. k < length t.creases) t.teams team
+    (recursion_from_All (λ k. k < length t.creases) (all_places t.teams) rules.teams.each)
 
 -- and have places in a state
 pub have_places : (t : Task) → IsTask t → AllByRecursion (λ k. k < MOST_JOINTS) (all_places t.teams)
-have_places t rules = all_of (λ k. k < length t.creases) (λ k. k < MOST_JOINTS) (all_places t.teams) (λ k lt. omega (arith, lt, rules.few)) (recursion_from_All (λ k. k < length t.creases) (all_places t.teams) rules.teams.each)
+have_places t rules = all_of (λ k. k < length t.creases) (λ k. k < MOST_JOINTS) (all_places t.teams)
+    (λ k lt. omega (arith, lt, rules.few))
+    (recursion_from_All (λ k. k < length t.creases) (all_places t.teams) rules.teams.each)
 
 pub each_has_places : (t : Task) → IsTask t → All (λ (x : Team). All (λ k. k < MOST_JOINTS) x.places) t.teams
-each_has_places t rules = All-from_recursion (λ (x : Team). All (λ k. k < MOST_JOINTS) x.places) t.teams (at_each_team (λ k. k < MOST_JOINTS) t.teams (have_places t rules))
+each_has_places t rules = All-from_recursion (λ (x : Team). All (λ k. k < MOST_JOINTS) x.places) t.teams
+    (at_each_team (λ k. k < MOST_JOINTS) t.teams (have_places t rules))

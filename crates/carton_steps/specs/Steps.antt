@@ -1,5 +1,7 @@
 -- Grid steps of teams: each member goes towards where it is to be, by at most the stride.
-use Rattle.std.specs.Prelude.{◌≡◌, ℕ, ◌-◌, ◌/◌, ◌%◌, ◌<◌, ◌==◌, ℤ, pos, ◌+ℤ◌, ◌-ℤ◌, neg_ℤ, Bool, not, if◌then◌else◌, List, [], length, map, slice_get, Option, Some, None, option_map, unwrap_or}
+use Rattle.std.specs.Prelude.{◌≡◌, ℕ, ◌-◌, ◌/◌, ◌%◌, ◌<◌, ◌==◌, ℤ, pos, ◌+ℤ◌, ◌-ℤ◌, neg_ℤ, Bool, not}
+use Rattle.std.specs.Prelude.{if◌then◌else◌, List, [], length, map, slice_get, Option, Some, None, option_map}
+use Rattle.std.specs.Prelude.{unwrap_or}
 use Rattle.std.specs.Int.{int_min, int_max}
 use Rattle.std.specs.List.{list_any, range_with_len}
 use Rattle.std.specs.Ordering.{int_eq}
@@ -26,15 +28,18 @@ is_member members k = list_any (λ p. p == k) members
 
 -- the stop at place k after a step of these members
 abbrev pub stop_after : ℕ → List ℕ → State → State → ℕ → ℤ
-stop_after stride members goal at k = if is_member members k then toward stride (stop_of goal k) (stop_of at k) else stop_of at k
+stop_after stride members goal at k =
+    if is_member members k then toward stride (stop_of goal k) (stop_of at k) else stop_of at k
 
 -- the state after a step of these members
 abbrev pub moved : ℕ → List ℕ → State → State → State
-moved stride members goal at = record at { stops = map (stop_after stride members goal at) (range_with_len 0 MOST_JOINTS) }
+moved stride members goal at =
+    record at { stops = map (stop_after stride members goal at) (range_with_len 0 MOST_JOINTS) }
 
 -- the step of these members; none where all of them are at their goals
 abbrev pub step_to : ℕ → List ℕ → State → State → Option State
-step_to stride members goal at = if list_any (is_away goal at) members then Some (moved stride members goal at) else None
+step_to stride members goal at =
+    if list_any (is_away goal at) members then Some (moved stride members goal at) else None
 
 -- the members of the team of that number
 abbrev pub members_of : Task → ℕ → List ℕ
@@ -55,7 +60,8 @@ pub record IsGridStep (t : Task) (a b : State) : Type 0 where
   pub known : team < length t.teams
   pub leads : next_of t a team forward ≡ Some b
 
--- the grid steps counted by one number: two of each team, from the last team to the first, of each the one back and then the one forward
+-- the grid steps counted by one number: two of each team, from the last team to the first, of each the one
+-- back and then the one forward
 abbrev pub step_of : Task → State → ℕ → Option State
 step_of t at k = next_of t at (length t.teams - 1 - k / 2) (k % 2 == 1)
 

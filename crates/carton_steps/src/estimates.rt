@@ -1,7 +1,8 @@
 ghost use Rattle.std.specs.Prelude.{◌≡◌, ◌<◌, ◌≤◌, All};
 ghost use Rattle.carton_base.specs.declared.limits.TheConstants.{MOST_JOINTS};
 ghost use Rattle.carton_text.specs.TaskRules.{IsTask};
-ghost use Rattle.carton_steps.specs.Estimates.{distance as distance_in, farthest as farthest_in, steps_left as steps_left_in, estimate_of};
+ghost use Rattle.carton_steps.specs.Estimates.{distance as distance_in, farthest as farthest_in};
+ghost use Rattle.carton_steps.specs.Estimates.{steps_left as steps_left_in, estimate_of};
 
 use carton_base::State;
 use carton_text::{Task, Team};

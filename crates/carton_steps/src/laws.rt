@@ -10,6 +10,7 @@ ghost use Rattle.carton_steps.specs.Estimates.{estimate_of};
 /// grid step, whatever stops the state has, and is low at every state of the task's joints.
 pub fn estimate_laws()
     ensures none_left { (t : Task) → IsTask t → estimate_of t t.target ≡ 0 }
-    ensures falls { (t : Task) (a b : State) → IsTask t → IsGridStep t a b → estimate_of t a ≤ estimate_of t b + 1 }
+    ensures falls { (t : Task) (a b : State) → IsTask t → IsGridStep t a b
+        → estimate_of t a ≤ estimate_of t b + 1 }
     ensures low { (t : Task) (s : State) → IsTask t → IsState (length t.creases) s → estimate_of t s ≤ 768 }
 {}

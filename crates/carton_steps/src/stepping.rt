@@ -3,7 +3,9 @@ ghost use Rattle.std.specs.List.{list_any};
 ghost use Rattle.carton_base.specs.declared.limits.TheConstants.{MOST_JOINTS, WIDEST_STEP};
 ghost use Rattle.carton_model.specs.Moves.{stop_of, IsStop};
 ghost use Rattle.carton_text.specs.TaskRules.{IsTask};
-ghost use Rattle.carton_steps.specs.Steps.{toward as toward_in, is_away as is_away_in, stop_after, moved as moved_in, members_of, goal_of, next_of, IsStateOf, IsMove};
+ghost use Rattle.carton_steps.specs.Steps.{toward as toward_in, is_away as is_away_in, stop_after};
+ghost use Rattle.carton_steps.specs.Steps.{moved as moved_in, members_of, goal_of, next_of, IsStateOf};
+ghost use Rattle.carton_steps.specs.Steps.{IsMove};
 
 use carton_base::State;
 use carton_text::Task;

@@ -1,5 +1,7 @@
--- The places of a box that moves, by the bounds of their three parts, and how far they reach along a direction.
-use Rattle.std.proofs.Common.{◌≡◌, refl, sym, ap, subst, ℕ, ◌+◌, ◌*◌, List, [], ◌∷◌, ℤ, pos, negsuc, neg_ℤ, ◌+ℤ◌, ◌-ℤ◌, ◌*ℤ◌, ◌≤ℤ◌, ◌<ℤ◌, arith}
+-- The places of a box that moves, by the bounds of their three parts, and how far they reach along a
+-- direction.
+use Rattle.std.proofs.Common.{◌≡◌, refl, sym, ap, subst, ℕ, ◌+◌, ◌*◌, List, [], ◌∷◌, ℤ, pos, negsuc, neg_ℤ}
+use Rattle.std.proofs.Common.{◌+ℤ◌, ◌-ℤ◌, ◌*ℤ◌, ◌≤ℤ◌, ◌<ℤ◌, arith}
 use Rattle.std.specs.Prelude.{All, slice_index_or}
 use Rattle.std.specs.Int.{int_min, int_max}
 use Rattle.std.proofs.lemmas.Int.{ints, clamps, by_lt_z}
@@ -46,24 +48,31 @@ third_back : (x y z : ℤ) → pos 0 *ℤ x +ℤ pos 0 *ℤ y +ℤ negsuc 0 *ℤ
 third_back x y z = omega (arith, ints)
 
 -- a is how far the place lies along a face's direction, s the stroke
-upper : (a x s speed high d t w : ℤ) → a ≡ x → s ≡ speed → (a *ℤ d) ≤ℤ ((high *ℤ d +ℤ s *ℤ t) *ℤ w) → (x *ℤ d) ≤ℤ ((high *ℤ d +ℤ speed *ℤ t) *ℤ w)
-upper a x s speed high d t w ea es h = subst (λ z. (x *ℤ d) ≤ℤ ((high *ℤ d +ℤ z *ℤ t) *ℤ w)) es (subst (λ z. (z *ℤ d) ≤ℤ ((high *ℤ d +ℤ s *ℤ t) *ℤ w)) ea h)
+upper : (a x s speed high d t w : ℤ) → a ≡ x → s ≡ speed → (a *ℤ d) ≤ℤ ((high *ℤ d +ℤ s *ℤ t) *ℤ w)
+    → (x *ℤ d) ≤ℤ ((high *ℤ d +ℤ speed *ℤ t) *ℤ w)
+upper a x s speed high d t w ea es h =
+    subst (λ z. (x *ℤ d) ≤ℤ ((high *ℤ d +ℤ z *ℤ t) *ℤ w)) es
+    (subst (λ z. (z *ℤ d) ≤ℤ ((high *ℤ d +ℤ s *ℤ t) *ℤ w)) ea h)
 
-lower : (a x s speed low d t w : ℤ) → a ≡ neg_ℤ x → s ≡ neg_ℤ speed → (a *ℤ d) ≤ℤ ((neg_ℤ low *ℤ d +ℤ s *ℤ t) *ℤ w) → ((low *ℤ d +ℤ speed *ℤ t) *ℤ w) ≤ℤ (x *ℤ d)
+lower : (a x s speed low d t w : ℤ) → a ≡ neg_ℤ x → s ≡ neg_ℤ speed
+    → (a *ℤ d) ≤ℤ ((neg_ℤ low *ℤ d +ℤ s *ℤ t) *ℤ w) → ((low *ℤ d +ℤ speed *ℤ t) *ℤ w) ≤ℤ (x *ℤ d)
 lower a x s speed low d t w ea es h =
     let l = simp laid_out at (upper a (neg_ℤ x) s (neg_ℤ speed) (neg_ℤ low) d t w ea es h) in
     simp laid_out (omega (arith, sums, l))
 
 -- and back
-upper_back : (a x s speed high d t w : ℤ) → a ≡ x → s ≡ speed → (x *ℤ d) ≤ℤ ((high *ℤ d +ℤ speed *ℤ t) *ℤ w) → (a *ℤ d) ≤ℤ ((high *ℤ d +ℤ s *ℤ t) *ℤ w)
+upper_back : (a x s speed high d t w : ℤ) → a ≡ x → s ≡ speed → (x *ℤ d) ≤ℤ ((high *ℤ d +ℤ speed *ℤ t) *ℤ w)
+    → (a *ℤ d) ≤ℤ ((high *ℤ d +ℤ s *ℤ t) *ℤ w)
 upper_back a x s speed high d t w ea es h = upper x a speed s high d t w (sym ea) (sym es) h
 
-lower_back : (a x s speed low d t w : ℤ) → a ≡ neg_ℤ x → s ≡ neg_ℤ speed → ((low *ℤ d +ℤ speed *ℤ t) *ℤ w) ≤ℤ (x *ℤ d) → (a *ℤ d) ≤ℤ ((neg_ℤ low *ℤ d +ℤ s *ℤ t) *ℤ w)
+lower_back : (a x s speed low d t w : ℤ) → a ≡ neg_ℤ x → s ≡ neg_ℤ speed → ((low *ℤ d +ℤ speed *ℤ t) *ℤ w)
+    ≤ℤ (x *ℤ d) → (a *ℤ d) ≤ℤ ((neg_ℤ low *ℤ d +ℤ s *ℤ t) *ℤ w)
 lower_back a x s speed low d t w ea es h =
     let l = simp laid_out at h in
     upper_back a (neg_ℤ x) s (neg_ℤ speed) (neg_ℤ low) d t w ea es (simp laid_out (omega (arith, sums, l)))
 
-pub from_faces : (b : Cuboid) (stroke : List ℤ) (i n d : ℕ) (q : Position) → All (IsInSide stroke i n d q) (faces b) → IsPlaceIn b stroke (pos d) (pos (i * d + n)) q
+pub from_faces : (b : Cuboid) (stroke : List ℤ) (i n d : ℕ) (q : Position)
+    → All (IsInSide stroke i n d q) (faces b) → IsPlaceIn b stroke (pos d) (pos (i * d + n)) q
 from_faces b stroke i n d q h =
     let sx = part stroke 0 in
     let sy = part stroke 1 in
@@ -71,38 +80,53 @@ from_faces b stroke i n d q h =
     let none = side (pos 0) (pos 0) (pos 0) (pos 0) in
     record {
       x = record {
-        from = lower _ q.x _ sx b.x0 (pos d) (pos (i * d + n)) q.w (first_back q.x q.y q.z) (first_back sx sy sz) (h 1 none (omega arith));
-        upto = upper _ q.x _ sx b.x1 (pos d) (pos (i * d + n)) q.w (first q.x q.y q.z) (first sx sy sz) (h 0 none (omega arith));
+        from = lower _ q.x _ sx b.x0 (pos d) (pos (i * d + n)) q.w (first_back q.x q.y q.z)
+            (first_back sx sy sz) (h 1 none (omega arith));
+        upto = upper _ q.x _ sx b.x1 (pos d) (pos (i * d + n)) q.w (first q.x q.y q.z) (first sx sy sz)
+            (h 0 none (omega arith));
       };
       y = record {
-        from = lower _ q.y _ sy b.y0 (pos d) (pos (i * d + n)) q.w (second_back q.x q.y q.z) (second_back sx sy sz) (h 3 none (omega arith));
-        upto = upper _ q.y _ sy b.y1 (pos d) (pos (i * d + n)) q.w (second q.x q.y q.z) (second sx sy sz) (h 2 none (omega arith));
+        from = lower _ q.y _ sy b.y0 (pos d) (pos (i * d + n)) q.w (second_back q.x q.y q.z)
+            (second_back sx sy sz) (h 3 none (omega arith));
+        upto = upper _ q.y _ sy b.y1 (pos d) (pos (i * d + n)) q.w (second q.x q.y q.z) (second sx sy sz)
+            (h 2 none (omega arith));
       };
       z = record {
-        from = lower _ q.z _ sz b.z0 (pos d) (pos (i * d + n)) q.w (third_back q.x q.y q.z) (third_back sx sy sz) (h 5 none (omega arith));
-        upto = upper _ q.z _ sz b.z1 (pos d) (pos (i * d + n)) q.w (third q.x q.y q.z) (third sx sy sz) (h 4 none (omega arith));
+        from = lower _ q.z _ sz b.z0 (pos d) (pos (i * d + n)) q.w (third_back q.x q.y q.z)
+            (third_back sx sy sz) (h 5 none (omega arith));
+        upto = upper _ q.z _ sz b.z1 (pos d) (pos (i * d + n)) q.w (third q.x q.y q.z) (third sx sy sz)
+            (h 4 none (omega arith));
       };
     }
 
-all_six : {X : Type 0} (P : X → Type 0) (a b c d e f : X) → P a → P b → P c → P d → P e → P f → All P (a ∷ b ∷ c ∷ d ∷ e ∷ f ∷ [])
+all_six : {X : Type 0} (P : X → Type 0) (a b c d e f : X) → P a → P b → P c → P d → P e → P f
+    → All P (a ∷ b ∷ c ∷ d ∷ e ∷ f ∷ [])
 all_six P a b c d e f pa pb pc pd pe pf =
-    All-cons P a (b ∷ c ∷ d ∷ e ∷ f ∷ []) pa (All-cons P b (c ∷ d ∷ e ∷ f ∷ []) pb (All-cons P c (d ∷ e ∷ f ∷ []) pc (All-cons P d (e ∷ f ∷ []) pd (All-cons P e (f ∷ []) pe (All-cons P f [] pf (All-nil P))))))
+    All-cons P a (b ∷ c ∷ d ∷ e ∷ f ∷ []) pa
+    (All-cons P b (c ∷ d ∷ e ∷ f ∷ []) pb
+    (All-cons P c (d ∷ e ∷ f ∷ []) pc
+    (All-cons P d (e ∷ f ∷ []) pd (All-cons P e (f ∷ []) pe (All-cons P f [] pf (All-nil P))))))
 
-pub to_faces : (b : Cuboid) (stroke : List ℤ) (i n d : ℕ) (q : Position) → IsPlaceIn b stroke (pos d) (pos (i * d + n)) q → All (IsInSide stroke i n d q) (faces b)
+pub to_faces : (b : Cuboid) (stroke : List ℤ) (i n d : ℕ) (q : Position)
+    → IsPlaceIn b stroke (pos d) (pos (i * d + n)) q → All (IsInSide stroke i n d q) (faces b)
 to_faces b stroke i n d q h =
     let sx = part stroke 0 in
     let sy = part stroke 1 in
     let sz = part stroke 2 in
     all_six (IsInSide stroke i n d q) _ _ _ _ _ _
     (upper_back _ q.x _ sx b.x1 (pos d) (pos (i * d + n)) q.w (first q.x q.y q.z) (first sx sy sz) h.x.upto)
-    (lower_back _ q.x _ sx b.x0 (pos d) (pos (i * d + n)) q.w (first_back q.x q.y q.z) (first_back sx sy sz) h.x.from)
+    (lower_back _ q.x _ sx b.x0 (pos d) (pos (i * d + n)) q.w (first_back q.x q.y q.z) (first_back sx sy sz)
+    h.x.from)
     (upper_back _ q.y _ sy b.y1 (pos d) (pos (i * d + n)) q.w (second q.x q.y q.z) (second sx sy sz) h.y.upto)
-    (lower_back _ q.y _ sy b.y0 (pos d) (pos (i * d + n)) q.w (second_back q.x q.y q.z) (second_back sx sy sz) h.y.from)
+    (lower_back _ q.y _ sy b.y0 (pos d) (pos (i * d + n)) q.w (second_back q.x q.y q.z) (second_back sx sy sz)
+    h.y.from)
     (upper_back _ q.z _ sz b.z1 (pos d) (pos (i * d + n)) q.w (third q.x q.y q.z) (third sx sy sz) h.z.upto)
-    (lower_back _ q.z _ sz b.z0 (pos d) (pos (i * d + n)) q.w (third_back q.x q.y q.z) (third_back sx sy sz) h.z.from)
+    (lower_back _ q.z _ sz b.z0 (pos d) (pos (i * d + n)) q.w (third_back q.x q.y q.z) (third_back sx sy sz)
+    h.z.from)
 
 -- what lies between two numbers, times u, lies between the least and the greatest of their products with u
-least_part : (m u low high speed d t w x : ℤ) → pos 0 ≤ℤ (d *ℤ w) → m ≤ℤ (u *ℤ low) → m ≤ℤ (u *ℤ high) → IsInside low high speed d t w x → ((m *ℤ d +ℤ (u *ℤ speed) *ℤ t) *ℤ w) ≤ℤ ((u *ℤ x) *ℤ d)
+least_part : (m u low high speed d t w x : ℤ) → pos 0 ≤ℤ (d *ℤ w) → m ≤ℤ (u *ℤ low) → m ≤ℤ (u *ℤ high)
+    → IsInside low high speed d t w x → ((m *ℤ d +ℤ (u *ℤ speed) *ℤ t) *ℤ w) ≤ℤ ((u *ℤ x) *ℤ d)
 least_part m u low high speed d t w x some ml mh h =
     let k = d *ℤ w in
     let y = x *ℤ d -ℤ (speed *ℤ t) *ℤ w in
@@ -110,14 +134,19 @@ least_part m u low high speed d t w x some ml mh h =
     let upto = simp laid_out at h.upto in
     let a = mul_le_right m (u *ℤ low) k ml some in
     let b = mul_le_right m (u *ℤ high) k mh some in
-    let within : Between (low *ℤ k) (high *ℤ k) y = record { from = simp laid_out (omega (arith, sums, from)); upto = simp laid_out (omega (arith, sums, upto)) } in
+    let within : Between (low *ℤ k) (high *ℤ k) y = record {
+      from = simp laid_out (omega (arith, sums, from));
+      upto = simp laid_out (omega (arith, sums, upto));
+    } in
     let al : (m *ℤ k) ≤ℤ (u *ℤ (low *ℤ k)) = subst (λ z. (m *ℤ k) ≤ℤ z) (mul_assoc_ℤ u low k) a in
     let bl : (m *ℤ k) ≤ℤ (u *ℤ (high *ℤ k)) = subst (λ z. (m *ℤ k) ≤ℤ z) (mul_assoc_ℤ u high k) b in
-    let all = corners_below u u (low *ℤ k) (high *ℤ k) u y (m *ℤ k) (record { from = omega (arith, ints); upto = omega (arith, ints) }) within al bl al bl in
+    let all = corners_below u u (low *ℤ k) (high *ℤ k) u y (m *ℤ k)
+    (record { from = omega (arith, ints); upto = omega (arith, ints) }) within al bl al bl in
     let l = simp laid_out at all in
     simp laid_out (omega (arith, sums, l))
 
-greatest_part : (m u low high speed d t w x : ℤ) → pos 0 ≤ℤ (d *ℤ w) → (u *ℤ low) ≤ℤ m → (u *ℤ high) ≤ℤ m → IsInside low high speed d t w x → ((u *ℤ x) *ℤ d) ≤ℤ ((m *ℤ d +ℤ (u *ℤ speed) *ℤ t) *ℤ w)
+greatest_part : (m u low high speed d t w x : ℤ) → pos 0 ≤ℤ (d *ℤ w) → (u *ℤ low) ≤ℤ m → (u *ℤ high) ≤ℤ m
+    → IsInside low high speed d t w x → ((u *ℤ x) *ℤ d) ≤ℤ ((m *ℤ d +ℤ (u *ℤ speed) *ℤ t) *ℤ w)
 greatest_part m u low high speed d t w x some ml mh h =
     let k = d *ℤ w in
     let y = x *ℤ d -ℤ (speed *ℤ t) *ℤ w in
@@ -125,14 +154,19 @@ greatest_part m u low high speed d t w x some ml mh h =
     let upto = simp laid_out at h.upto in
     let a = mul_le_right (u *ℤ low) m k ml some in
     let b = mul_le_right (u *ℤ high) m k mh some in
-    let within : Between (low *ℤ k) (high *ℤ k) y = record { from = simp laid_out (omega (arith, sums, from)); upto = simp laid_out (omega (arith, sums, upto)) } in
+    let within : Between (low *ℤ k) (high *ℤ k) y = record {
+      from = simp laid_out (omega (arith, sums, from));
+      upto = simp laid_out (omega (arith, sums, upto));
+    } in
     let al : (u *ℤ (low *ℤ k)) ≤ℤ (m *ℤ k) = subst (λ z. z ≤ℤ (m *ℤ k)) (mul_assoc_ℤ u low k) a in
     let bl : (u *ℤ (high *ℤ k)) ≤ℤ (m *ℤ k) = subst (λ z. z ≤ℤ (m *ℤ k)) (mul_assoc_ℤ u high k) b in
-    let all = corners_above u u (low *ℤ k) (high *ℤ k) u y (m *ℤ k) (record { from = omega (arith, ints); upto = omega (arith, ints) }) within al bl al bl in
+    let all = corners_above u u (low *ℤ k) (high *ℤ k) u y (m *ℤ k)
+    (record { from = omega (arith, ints); upto = omega (arith, ints) }) within al bl al bl in
     let l = simp laid_out at all in
     simp laid_out (omega (arith, sums, l))
 
-three_below : (a b c d x y z t w e f g : ℤ) → ((a *ℤ d +ℤ x *ℤ t) *ℤ w) ≤ℤ (e *ℤ d) → ((b *ℤ d +ℤ y *ℤ t) *ℤ w) ≤ℤ (f *ℤ d) → ((c *ℤ d +ℤ z *ℤ t) *ℤ w) ≤ℤ (g *ℤ d)
+three_below : (a b c d x y z t w e f g : ℤ) → ((a *ℤ d +ℤ x *ℤ t) *ℤ w) ≤ℤ (e *ℤ d)
+    → ((b *ℤ d +ℤ y *ℤ t) *ℤ w) ≤ℤ (f *ℤ d) → ((c *ℤ d +ℤ z *ℤ t) *ℤ w) ≤ℤ (g *ℤ d)
     → (((a +ℤ b +ℤ c) *ℤ d +ℤ (x +ℤ y +ℤ z) *ℤ t) *ℤ w) ≤ℤ ((e +ℤ f +ℤ g) *ℤ d)
 three_below a b c d x y z t w e f g h i j =
     let l = simp laid_out at h in
@@ -140,7 +174,8 @@ three_below a b c d x y z t w e f g h i j =
     let n = simp laid_out at j in
     simp laid_out (omega (arith, sums, l, m, n))
 
-three_above : (a b c d x y z t w e f g : ℤ) → (e *ℤ d) ≤ℤ ((a *ℤ d +ℤ x *ℤ t) *ℤ w) → (f *ℤ d) ≤ℤ ((b *ℤ d +ℤ y *ℤ t) *ℤ w) → (g *ℤ d) ≤ℤ ((c *ℤ d +ℤ z *ℤ t) *ℤ w)
+three_above : (a b c d x y z t w e f g : ℤ) → (e *ℤ d) ≤ℤ ((a *ℤ d +ℤ x *ℤ t) *ℤ w)
+    → (f *ℤ d) ≤ℤ ((b *ℤ d +ℤ y *ℤ t) *ℤ w) → (g *ℤ d) ≤ℤ ((c *ℤ d +ℤ z *ℤ t) *ℤ w)
     → ((e +ℤ f +ℤ g) *ℤ d) ≤ℤ (((a +ℤ b +ℤ c) *ℤ d +ℤ (x +ℤ y +ℤ z) *ℤ t) *ℤ w)
 three_above a b c d x y z t w e f g h i j =
     let l = simp laid_out at h in
@@ -161,20 +196,24 @@ max_right : (a b : ℤ) → b ≤ℤ int_max a b
 max_right a b = omega (arith, ints, clamps)
 
 -- no place of the box lies nearer along the direction than the least, nor farther than the greatest
-pub least_below : (u v s : ℤ) (b : Cuboid) (stroke : List ℤ) (d t : ℤ) (q : Position) → pos 0 ≤ℤ d → pos 0 ≤ℤ q.w → IsPlaceIn b stroke d t q
+pub least_below : (u v s : ℤ) (b : Cuboid) (stroke : List ℤ) (d t : ℤ) (q : Position) → pos 0 ≤ℤ d
+    → pos 0 ≤ℤ q.w → IsPlaceIn b stroke d t q
     → ((least_on u v s b *ℤ d +ℤ stroke_along u v s stroke *ℤ t) *ℤ q.w) ≤ℤ (along u v s q *ℤ d)
 least_below u v s b stroke d t q nd nw h =
     let some = nonneg_product d q.w nd nw in
-    three_below _ _ _ d (u *ℤ part stroke 0) (v *ℤ part stroke 1) (s *ℤ part stroke 2) t q.w (u *ℤ q.x) (v *ℤ q.y) (s *ℤ q.z)
+    three_below _ _ _ d (u *ℤ part stroke 0) (v *ℤ part stroke 1) (s *ℤ part stroke 2) t q.w (u *ℤ q.x)
+    (v *ℤ q.y) (s *ℤ q.z)
     (least_part _ u b.x0 b.x1 (part stroke 0) d t q.w q.x some (min_left _ _) (min_right _ _) h.x)
     (least_part _ v b.y0 b.y1 (part stroke 1) d t q.w q.y some (min_left _ _) (min_right _ _) h.y)
     (least_part _ s b.z0 b.z1 (part stroke 2) d t q.w q.z some (min_left _ _) (min_right _ _) h.z)
 
-pub greatest_above : (u v s : ℤ) (b : Cuboid) (stroke : List ℤ) (d t : ℤ) (q : Position) → pos 0 ≤ℤ d → pos 0 ≤ℤ q.w → IsPlaceIn b stroke d t q
+pub greatest_above : (u v s : ℤ) (b : Cuboid) (stroke : List ℤ) (d t : ℤ) (q : Position) → pos 0 ≤ℤ d
+    → pos 0 ≤ℤ q.w → IsPlaceIn b stroke d t q
     → (along u v s q *ℤ d) ≤ℤ ((greatest_on u v s b *ℤ d +ℤ stroke_along u v s stroke *ℤ t) *ℤ q.w)
 greatest_above u v s b stroke d t q nd nw h =
     let some = nonneg_product d q.w nd nw in
-    three_above _ _ _ d (u *ℤ part stroke 0) (v *ℤ part stroke 1) (s *ℤ part stroke 2) t q.w (u *ℤ q.x) (v *ℤ q.y) (s *ℤ q.z)
+    three_above _ _ _ d (u *ℤ part stroke 0) (v *ℤ part stroke 1) (s *ℤ part stroke 2) t q.w (u *ℤ q.x)
+    (v *ℤ q.y) (s *ℤ q.z)
     (greatest_part _ u b.x0 b.x1 (part stroke 0) d t q.w q.x some (max_left _ _) (max_right _ _) h.x)
     (greatest_part _ v b.y0 b.y1 (part stroke 1) d t q.w q.y some (max_left _ _) (max_right _ _) h.y)
     (greatest_part _ s b.z0 b.z1 (part stroke 2) d t q.w q.z some (max_left _ _) (max_right _ _) h.z)
@@ -199,7 +238,8 @@ greatest_reached u low high h =
     (λ l. record { at = low; from = omega (arith, ints); upto = h; is = omega (arith, ints, clamps, l) })
 
 -- where such a number stands at the time t / d
-shifted_in : (low high speed d t c : ℤ) → pos 0 ≤ℤ d → low ≤ℤ c → c ≤ℤ high → IsInside low high speed d t d (c *ℤ d +ℤ speed *ℤ t)
+shifted_in : (low high speed d t c : ℤ) → pos 0 ≤ℤ d → low ≤ℤ c → c ≤ℤ high
+    → IsInside low high speed d t d (c *ℤ d +ℤ speed *ℤ t)
 shifted_in low high speed d t c nd hl hh =
     let nn = nonneg_product d d nd nd in
     let a = simp laid_out at (mul_le_right low c (d *ℤ d) hl nn) in
@@ -208,10 +248,16 @@ shifted_in low high speed d t c nd hl hh =
 
 -- the place with these three parts at time 0
 abbrev place : List ℤ → ℤ → ℤ → ℤ → ℤ → ℤ → Position
-place stroke d t x y z = record { x = x *ℤ d +ℤ part stroke 0 *ℤ t; y = y *ℤ d +ℤ part stroke 1 *ℤ t; z = z *ℤ d +ℤ part stroke 2 *ℤ t; w = d }
+place stroke d t x y z = record {
+  x = x *ℤ d +ℤ part stroke 0 *ℤ t;
+  y = y *ℤ d +ℤ part stroke 1 *ℤ t;
+  z = z *ℤ d +ℤ part stroke 2 *ℤ t;
+  w = d;
+}
 
 reached_along : (u v s x y z a b c d t px py pz : ℤ) → u *ℤ x ≡ a → v *ℤ y ≡ b → s *ℤ z ≡ c
-    → u *ℤ (x *ℤ d +ℤ px *ℤ t) +ℤ v *ℤ (y *ℤ d +ℤ py *ℤ t) +ℤ s *ℤ (z *ℤ d +ℤ pz *ℤ t) ≡ (a +ℤ b +ℤ c) *ℤ d +ℤ (u *ℤ px +ℤ v *ℤ py +ℤ s *ℤ pz) *ℤ t
+    → u *ℤ (x *ℤ d +ℤ px *ℤ t) +ℤ v *ℤ (y *ℤ d +ℤ py *ℤ t) +ℤ s *ℤ (z *ℤ d +ℤ pz *ℤ t)
+    ≡ (a +ℤ b +ℤ c) *ℤ d +ℤ (u *ℤ px +ℤ v *ℤ py +ℤ s *ℤ pz) *ℤ t
 reached_along u v s x y z a b c d t px py pz ex ey ez =
     let l = simp laid_out at (ap (λ k. k *ℤ d) ex) in
     let m = simp laid_out at (ap (λ k. k *ℤ d) ey) in
@@ -225,7 +271,9 @@ pub record IsPlaceAt (u v s : ℤ) (b : Cuboid) (stroke : List ℤ) (d t m : ℤ
   pub inside : IsPlaceIn b stroke d t q
   pub reach : along u v s q ≡ m *ℤ d +ℤ stroke_along u v s stroke *ℤ t
 
-reached_place : (u v s : ℤ) (b : Cuboid) (stroke : List ℤ) (d t mx my mz : ℤ) → pos 0 ≤ℤ d → IsReached u b.x0 b.x1 mx → IsReached v b.y0 b.y1 my → IsReached s b.z0 b.z1 mz → IsPlaceAt u v s b stroke d t (mx +ℤ my +ℤ mz)
+reached_place : (u v s : ℤ) (b : Cuboid) (stroke : List ℤ) (d t mx my mz : ℤ) → pos 0 ≤ℤ d
+    → IsReached u b.x0 b.x1 mx → IsReached v b.y0 b.y1 my → IsReached s b.z0 b.z1 mz
+    → IsPlaceAt u v s b stroke d t (mx +ℤ my +ℤ mz)
 reached_place u v s b stroke d t mx my mz nd x y z = record {
   q = place stroke d t x.at y.at z.at;
   w = refl;
@@ -234,15 +282,22 @@ reached_place u v s b stroke d t mx my mz nd x y z = record {
     y = shifted_in b.y0 b.y1 (part stroke 1) d t y.at nd y.from y.upto;
     z = shifted_in b.z0 b.z1 (part stroke 2) d t z.at nd z.from z.upto;
   };
-  reach = reached_along u v s x.at y.at z.at mx my mz d t (part stroke 0) (part stroke 1) (part stroke 2) x.is y.is z.is;
+  reach = reached_along u v s x.at y.at z.at mx my mz d t (part stroke 0) (part stroke 1) (part stroke 2) x.is
+      y.is z.is;
 }
 
 weak : (a b : ℤ) → a <ℤ b → a ≤ℤ b
 weak a b h = omega (arith, ints, h)
 
 -- some place of the box lies at the least, and some at the greatest
-pub least_there : (u v s : ℤ) (b : Cuboid) (stroke : List ℤ) (d t : ℤ) → IsBox b → pos 0 ≤ℤ d → IsPlaceAt u v s b stroke d t (least_on u v s b)
-least_there u v s b stroke d t h nd = reached_place u v s b stroke d t _ _ _ nd (least_reached u b.x0 b.x1 (weak _ _ h.x)) (least_reached v b.y0 b.y1 (weak _ _ h.y)) (least_reached s b.z0 b.z1 (weak _ _ h.z))
+pub least_there : (u v s : ℤ) (b : Cuboid) (stroke : List ℤ) (d t : ℤ) → IsBox b → pos 0 ≤ℤ d
+    → IsPlaceAt u v s b stroke d t (least_on u v s b)
+least_there u v s b stroke d t h nd =
+    reached_place u v s b stroke d t _ _ _ nd (least_reached u b.x0 b.x1 (weak _ _ h.x))
+    (least_reached v b.y0 b.y1 (weak _ _ h.y)) (least_reached s b.z0 b.z1 (weak _ _ h.z))
 
-pub greatest_there : (u v s : ℤ) (b : Cuboid) (stroke : List ℤ) (d t : ℤ) → IsBox b → pos 0 ≤ℤ d → IsPlaceAt u v s b stroke d t (greatest_on u v s b)
-greatest_there u v s b stroke d t h nd = reached_place u v s b stroke d t _ _ _ nd (greatest_reached u b.x0 b.x1 (weak _ _ h.x)) (greatest_reached v b.y0 b.y1 (weak _ _ h.y)) (greatest_reached s b.z0 b.z1 (weak _ _ h.z))
+pub greatest_there : (u v s : ℤ) (b : Cuboid) (stroke : List ℤ) (d t : ℤ) → IsBox b → pos 0 ≤ℤ d
+    → IsPlaceAt u v s b stroke d t (greatest_on u v s b)
+greatest_there u v s b stroke d t h nd =
+    reached_place u v s b stroke d t _ _ _ nd (greatest_reached u b.x0 b.x1 (weak _ _ h.x))
+    (greatest_reached v b.y0 b.y1 (weak _ _ h.y)) (greatest_reached s b.z0 b.z1 (weak _ _ h.z))

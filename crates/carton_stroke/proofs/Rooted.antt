@@ -9,7 +9,8 @@ use Rattle.carton_tree.proofs.Meeting.{few_turns}
 use Rattle.carton_part.proofs.Upward.{no_turns}
 
 -- up by at most 8 turns, and from the root there are none
-few_by : (k l : ℕ) (us ds : List Turn) → length us ≤ 8 → ds ≡ [] → length (take k us ++ reverse (map turned_back (take l ds))) ≤ 8
+few_by : (k l : ℕ) (us ds : List Turn) → length us ≤ 8 → ds ≡ []
+    → length (take k us ++ reverse (map turned_back (take l ds))) ≤ 8
 few_by k l us ds few none =
     let down = take l ds in
     let a = length-append (take k us) (reverse (map turned_back down)) in
@@ -22,4 +23,5 @@ few_by k l us ds few none =
 
 pub few_to_root : (t : Tree) (p : ℕ) → IsCarton t → length (turns_between t p t.root) ≤ 8
 unfolding turns_between turns_up
-few_to_root t p c = few_by _ _ (turns_by 8 t.joints p) (turns_by 8 t.joints t.root) (few_turns 8 t.joints p) (no_turns t c)
+few_to_root t p c = few_by _ _ (turns_by 8 t.joints p) (turns_by 8 t.joints t.root) (few_turns 8 t.joints p)
+    (no_turns t c)

@@ -22,15 +22,19 @@ Places = ℕ → ℕ → ℕ → Position → Type 0
 
 -- at this moment of move i no direction parts the panel from the body by more than the slack
 abbrev pub IsTouchingMove : Tree → List State → Places → ℕ → ℕ → ℕ → Moment → Type 0
-IsTouchingMove t states body slack panel i m = (s r : State) × IsMove states i s r × IsHalvedMoment m (λ n d. ¬ (IsApartFrom t (folds_between s r n d) panel (body i n d) (pos 2 *ℤ pos slack)))
+IsTouchingMove t states body slack panel i m = (s r : State) × IsMove states i s r
+    × IsHalvedMoment m (λ n d.
+    ¬ (IsApartFrom t (folds_between s r n d) panel (body i n d) (pos 2 *ℤ pos slack)))
 
 -- there is one state alone, and in it none does
 abbrev pub IsTouchingState : Tree → List State → Places → ℕ → ℕ → ℕ → Moment → Type 0
-IsTouchingState t states body slack panel i m = (length states ≡ 1) × (i ≡ 0) × IsBeginning m × ((s : State) × IsFirst states s × ¬ (IsApartFrom t (fold_in s) panel (body 0 0 1) (pos 2 *ℤ pos slack)))
+IsTouchingState t states body slack panel i m = (length states ≡ 1) × (i ≡ 0) × IsBeginning m
+    × ((s : State) × IsFirst states s × ¬ (IsApartFrom t (fold_in s) panel (body 0 0 1) (pos 2 *ℤ pos slack)))
 
 -- the panel touches the body, in a move or in the only state
 abbrev pub IsTouchingAt : Tree → List State → Places → ℕ → ℕ → ℕ → Moment → Type 0
-IsTouchingAt t states body slack panel i m = (panel < length t.panels) × (IsTouchingMove t states body slack panel i m ⊎ IsTouchingState t states body slack panel i m)
+IsTouchingAt t states body slack panel i m = (panel < length t.panels)
+    × (IsTouchingMove t states body slack panel i m ⊎ IsTouchingState t states body slack panel i m)
 
 -- so it is with a box
 abbrev pub IsTouching : Tree → Plan → List ℤ → Cuboid → ℕ → ℕ → ℕ → Moment → Type 0
@@ -42,10 +46,13 @@ IsNoteOf t plan stroke box slack Clears = IsClearOf t plan stroke (faces box)
 IsNoteOf t plan stroke box slack (Touches panel step m) = IsTouching t plan stroke box slack panel.0 step m
 
 -- what is told of each of some boxes
-pub record AreNotesOf (t : Tree) (plan : Plan) (stroke : List ℤ) (boxes : List Cuboid) (slack : ℕ) (notes : List BodyNote) : Type 0 where
+pub record AreNotesOf (t : Tree) (plan : Plan) (stroke : List ℤ) (boxes : List Cuboid) (slack : ℕ)
+    (notes : List BodyNote) : Type 0 where
   pub count : length notes ≡ length boxes
-  pub each : (k : ℕ) (b : Cuboid) (m : BodyNote) → k < length boxes → IsNoteOf t plan stroke (slice_index_or boxes k b) slack (slice_index_or notes k m)
+  pub each : (k : ℕ) (b : Cuboid) (m : BodyNote) → k < length boxes
+      → IsNoteOf t plan stroke (slice_index_or boxes k b) slack (slice_index_or notes k m)
 
 -- a box from which each panel stays parted by more than the slack is told to clear the plan
 abbrev pub SlackClearIsTold : Type 0
-SlackClearIsTold = (t : Tree) (plan : Plan) (stroke : List ℤ) (box : Cuboid) (slack : ℕ) (note : BodyNote) → IsNoteOf t plan stroke box slack note → IsSlackClearOf t plan stroke (faces box) slack → note ≡ Clears
+SlackClearIsTold = (t : Tree) (plan : Plan) (stroke : List ℤ) (box : Cuboid) (slack : ℕ) (note : BodyNote)
+    → IsNoteOf t plan stroke box slack note → IsSlackClearOf t plan stroke (faces box) slack → note ≡ Clears

@@ -1,4 +1,5 @@
--- When a piece of a move of a plan begins and ends. Times are counted in moves since the start of the plan; units are 2^-40.
+-- When a piece of a move of a plan begins and ends. Times are counted in moves since the start of the plan;
+-- units are 2^-40.
 use Rattle.std.specs.Prelude.{◌≡◌, ℕ, ◌+◌, ◌≤◌, ◌^◌, pos, ◌+ℤ◌, ◌*ℤ◌, unsigned_abs}
 use Rattle.carton_base.specs.Rounding.{unit}
 use Rattle.carton_stroke.specs.declared.span.Span.{Span}

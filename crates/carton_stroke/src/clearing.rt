@@ -15,29 +15,17 @@ use crate::moving::Moving;
 use crate::note::BodyNote;
 use crate::passing::{Touch, first_touch};
 use crate::resting::note_state;
-use crate::world::{Known, known_over};
+use crate::world::{Placements, known_over};
 use carton_base::{Cuboid, Motion, State};
+use carton_check::move_at;
 use carton_text::Plan;
 use carton_tree::Carton;
-
-// Move i of the states.
-fn move_at(states: &[State], i: usize) -> Motion
-    requires moves { AreMoves states.now }
-    requires inside { i + 1 < length states.now }
-    ensures is { IsMove states.now i result.from result.to }
-    ensures motion { IsMotion MOST_JOINTS result }
-{
-    Motion {
-        from: states[i],
-        to: states[i + 1],
-    }
-}
 
 // What is told of the box after its move, by what was told before.
 fn note_after(
     carton: &Carton,
     motion: &Motion,
-    known: &Known,
+    known: &Placements,
     body: &Moving,
     slack: u16,
     note: BodyNote,
@@ -47,7 +35,8 @@ fn note_after(
     requires shape { IsBox body.now.shape }
     requires step { body.now.step ≤ MOST_STATES }
     requires slack { 1 ≤ slack }
-    ensures { (states : List State) → IsMove states body.now.step motion.now.from motion.now.to → IsNoteBefore carton.now states body.now.stroke slack body.now.step body.now.shape note
+    ensures { (states : List State) → IsMove states body.now.step motion.now.from motion.now.to
+        → IsNoteBefore carton.now states body.now.stroke slack body.now.step body.now.shape note
         → IsNoteBefore carton.now states body.now.stroke slack (body.now.step + 1) body.now.shape result }
 {
     match note {
@@ -78,7 +67,8 @@ fn note_move(
     requires bodies { All IsBox bodies.now }
     requires slack { 1 ≤ slack }
     requires notes { length notes.old ≡ length bodies.now }
-    ensures { (states : List State) → IsMove states step motion.now.from motion.now.to → AreNotesBefore carton.now states stroke slack step bodies.now notes.old
+    ensures { (states : List State) → IsMove states step motion.now.from motion.now.to
+        → AreNotesBefore carton.now states stroke slack step bodies.now notes.old
         → AreNotesBefore carton.now states stroke slack (step + 1) bodies.now notes.new }
 {
     let known = known_over(carton, motion);
@@ -117,7 +107,8 @@ fn note_moves(
 // Notes that each box clears the plan, before any move is looked at.
 fn note_none(notes: &mut [BodyNote])
     ensures count { length notes.new ≡ length notes.old }
-    ensures clear { (k : ℕ) (m : BodyNote) → k < length notes.new → slice_index_or notes.new k m ≡ BodyNote.Clears }
+    ensures clear { (k : ℕ) (m : BodyNote) → k < length notes.new → slice_index_or notes.new k m
+        ≡ BodyNote.Clears }
 {
     for k in 0..notes.len() {
         notes[k] = BodyNote::Clears;
@@ -163,7 +154,8 @@ pub fn body_clears(
     requires body { IsBox body.now }
     requires slack { (1 ≤ slack) × (slack ≤ WIDEST_SLACK) }
     ensures note { IsNoteOf carton.now plan.now stroke body.now slack result }
-    ensures slack_clear { IsSlackClearOf carton.now plan.now stroke (faces body.now) slack → result ≡ BodyNote.Clears }
+    ensures slack_clear { IsSlackClearOf carton.now plan.now stroke (faces body.now) slack
+        → result ≡ BodyNote.Clears }
 {
     let mut notes = [BodyNote::Clears];
     bodies_clear(carton, plan, stroke, &[*body], slack, &mut notes);

@@ -1,4 +1,4 @@
-ghost use Rattle.std.specs.Prelude.{◌≡◌, ◌<◌, ◌≤◌, ◌^◌, pos, ◌*ℤ◌, unsigned_abs, slice_index_or};
+ghost use Rattle.std.specs.Prelude.{◌≡◌, ◌<◌, ◌≤◌, ◌^◌, pos, ◌+ℤ◌, ◌*ℤ◌, unsigned_abs, slice_index_or};
 ghost use Rattle.std.specs.Int.{int_min, int_max};
 ghost use Rattle.carton_base.specs.Directions.{IsSign};
 ghost use Rattle.carton_base.specs.declared.limits.TheConstants.{MOST_STATES};
@@ -6,7 +6,7 @@ ghost use Rattle.carton_bodies.specs.Bodies.{stroke_along};
 ghost use Rattle.carton_bodies.specs.Boxes.{IsBox};
 ghost use Rattle.carton_enclose.specs.Points.{AreSigns};
 ghost use Rattle.carton_reach.specs.Axes.{axis_at};
-ghost use Rattle.carton_stroke.specs.Extents.{AreExtents, IsExtentBy, least_on, greatest_on};
+ghost use Rattle.carton_stroke.specs.Extents.{AreEndsOn, AreExtents, IsExtentBy};
 
 use crate::moving::Moving;
 use crate::span::{Span, span_of};
@@ -53,100 +53,110 @@ fn signed(c: i8, a: i32) -> i128
     product::<0, 31>(i128::from(c), i128::from(a))
 }
 
-// The least of c times a and c times b.
-fn least_of(c: i8, a: i32, b: i32) -> i128
-    requires { IsSign c }
-    ensures value { result ≡ int_min (c *ℤ a) (c *ℤ b) }
-    ensures size { unsigned_abs result ≤ 2 ^ 31 }
-{
-    signed(c, a).min(signed(c, b))
+// The least and the greatest of some numbers.
+#[derive(Clone, Copy)]
+struct Ends {
+    least: i128,
+    greatest: i128,
 }
 
-// The greatest of them.
-fn greatest_of(c: i8, a: i32, b: i32) -> i128
-    requires { IsSign c }
-    ensures value { result ≡ int_max (c *ℤ a) (c *ℤ b) }
-    ensures size { unsigned_abs result ≤ 2 ^ 31 }
+fn ends_of(a: i128, b: i128) -> Ends
+    ensures least { result.least ≡ int_min a b }
+    ensures greatest { result.greatest ≡ int_max a b }
 {
-    signed(c, a).max(signed(c, b))
+    Ends {
+        least: a.min(b),
+        greatest: a.max(b),
+    }
 }
 
-// How far the box reaches along the direction, the least.
-fn least_along(v: [i8; 3], shape: &Cuboid) -> i128
-    requires { AreSigns v }
-    ensures value { result ≡ least_on (slice_index_or v 0 (pos 0)) (slice_index_or v 1 (pos 0)) (slice_index_or v 2 (pos 0)) shape.now }
+// The ends of c times a and c times b.
+fn signed_ends(c: i8, a: i32, b: i32) -> Ends
+    requires { IsSign c }
+    ensures least { result.least ≡ int_min (c *ℤ a) (c *ℤ b) }
+    ensures greatest { result.greatest ≡ int_max (c *ℤ a) (c *ℤ b) }
+    ensures small_least { unsigned_abs result.least ≤ 2 ^ 31 }
+    ensures small_greatest { unsigned_abs result.greatest ≤ 2 ^ 31 }
+{
+    ends_of(signed(c, a), signed(c, b))
+}
+
+// Three numbers added.
+fn total(x: i128, y: i128, z: i128) -> i128
+    requires x { unsigned_abs x ≤ 2 ^ 31 }
+    requires y { unsigned_abs y ≤ 2 ^ 31 }
+    requires z { unsigned_abs z ≤ 2 ^ 31 }
+    ensures value { result ≡ x +ℤ y +ℤ z }
     ensures size { unsigned_abs result ≤ 2 ^ 33 }
 {
-    let x = least_of(v[0], shape.x0, shape.x1);
-    let y = least_of(v[1], shape.y0, shape.y1);
-    let z = least_of(v[2], shape.z0, shape.z1);
     sum::<32>(sum::<31>(x, y), z)
 }
 
-// How far the box reaches along the direction, the greatest.
-fn greatest_along(v: [i8; 3], shape: &Cuboid) -> i128
+// How far the box reaches along the direction.
+fn ends_along(v: [i8; 3], shape: &Cuboid) -> Ends
     requires { AreSigns v }
-    ensures value { result ≡ greatest_on (slice_index_or v 0 (pos 0)) (slice_index_or v 1 (pos 0)) (slice_index_or v 2 (pos 0)) shape.now }
-    ensures size { unsigned_abs result ≤ 2 ^ 33 }
+    ensures ends { AreEndsOn (slice_index_or v 0 (pos 0)) (slice_index_or v 1 (pos 0))
+        (slice_index_or v 2 (pos 0))
+        shape.now result }
+    ensures small_least { unsigned_abs result.least ≤ 2 ^ 33 }
+    ensures small_greatest { unsigned_abs result.greatest ≤ 2 ^ 33 }
 {
-    let x = greatest_of(v[0], shape.x0, shape.x1);
-    let y = greatest_of(v[1], shape.y0, shape.y1);
-    let z = greatest_of(v[2], shape.z0, shape.z1);
-    sum::<32>(sum::<31>(x, y), z)
+    let x = signed_ends(v[0], shape.x0, shape.x1);
+    let y = signed_ends(v[1], shape.y0, shape.y1);
+    let z = signed_ends(v[2], shape.z0, shape.z1);
+    Ends {
+        least: total(x.least, y.least, z.least),
+        greatest: total(x.greatest, y.greatest, z.greatest),
+    }
 }
 
 // How far the stroke goes along the direction in a move.
 fn speed_along(v: [i8; 3], stroke: [i32; 3]) -> i128
     requires { AreSigns v }
-    ensures value { result ≡ stroke_along (slice_index_or v 0 (pos 0)) (slice_index_or v 1 (pos 0)) (slice_index_or v 2 (pos 0)) stroke }
+    ensures value { result
+        ≡ stroke_along (slice_index_or v 0 (pos 0)) (slice_index_or v 1 (pos 0)) (slice_index_or v 2 (pos 0))
+        stroke }
     ensures size { unsigned_abs result ≤ 2 ^ 33 }
 {
     let x = signed(v[0], stroke[0]);
     let y = signed(v[1], stroke[1]);
     let z = signed(v[2], stroke[2]);
-    sum::<32>(sum::<31>(x, y), z)
+    total(x, y, z)
 }
 
-// The least that something of this speed has gone, of two times.
-fn back(speed: i128, times: Span) -> i128
+// How far something of this speed has gone at two times.
+fn gone(speed: i128, times: Span) -> Ends
     requires speed { unsigned_abs speed ≤ 2 ^ 33 }
     requires early { unsigned_abs times.from ≤ 2 ^ 78 }
     requires late { unsigned_abs times.upto ≤ 2 ^ 78 }
-    ensures value { result ≡ int_min (speed *ℤ times.from) (speed *ℤ times.upto) }
-    ensures size { unsigned_abs result ≤ 2 ^ 111 }
+    ensures least { result.least ≡ int_min (speed *ℤ times.from) (speed *ℤ times.upto) }
+    ensures greatest { result.greatest ≡ int_max (speed *ℤ times.from) (speed *ℤ times.upto) }
+    ensures small_least { unsigned_abs result.least ≤ 2 ^ 111 }
+    ensures small_greatest { unsigned_abs result.greatest ≤ 2 ^ 111 }
 {
-    product::<33, 78>(speed, times.from).min(product::<33, 78>(speed, times.upto))
+    ends_of(
+        product::<33, 78>(speed, times.from),
+        product::<33, 78>(speed, times.upto),
+    )
 }
 
-// The farthest that it has gone.
-fn ahead(speed: i128, times: Span) -> i128
+// The extent of what reaches as far as these ends at time 0, and moves at this speed.
+fn extent_by(ends: Ends, speed: i128, times: Span) -> Extent
+    requires least { unsigned_abs ends.least ≤ 2 ^ 33 }
+    requires greatest { unsigned_abs ends.greatest ≤ 2 ^ 33 }
     requires speed { unsigned_abs speed ≤ 2 ^ 33 }
     requires early { unsigned_abs times.from ≤ 2 ^ 78 }
     requires late { unsigned_abs times.upto ≤ 2 ^ 78 }
-    ensures value { result ≡ int_max (speed *ℤ times.from) (speed *ℤ times.upto) }
-    ensures size { unsigned_abs result ≤ 2 ^ 111 }
+    ensures { IsExtentBy ends.least ends.greatest speed times result }
 {
-    product::<33, 78>(speed, times.from).max(product::<33, 78>(speed, times.upto))
-}
-
-// The extent of what reaches from `least` to `greatest` at time 0, and moves at this speed.
-fn extent_by(least: i128, greatest: i128, speed: i128, times: Span) -> Extent
-    requires least { unsigned_abs least ≤ 2 ^ 33 }
-    requires greatest { unsigned_abs greatest ≤ 2 ^ 33 }
-    requires speed { unsigned_abs speed ≤ 2 ^ 33 }
-    requires early { unsigned_abs times.from ≤ 2 ^ 78 }
-    requires late { unsigned_abs times.upto ≤ 2 ^ 78 }
-    ensures { IsExtentBy least greatest speed times result }
-{
-    let near = product::<33, 40>(least, UNIT);
-    let far = product::<33, 40>(greatest, UNIT);
-    let low = back(speed, times);
-    let high = ahead(speed, times);
+    let near = product::<33, 40>(ends.least, UNIT);
+    let far = product::<33, 40>(ends.greatest, UNIT);
+    let way = gone(speed, times);
     Extent {
-        least_low: sum::<111>(near, low),
-        least_high: sum::<111>(near, high),
-        greatest_low: sum::<111>(far, low),
-        greatest_high: sum::<111>(far, high),
+        least_low: sum::<111>(near, way.least),
+        least_high: sum::<111>(near, way.greatest),
+        greatest_low: sum::<111>(far, way.least),
+        greatest_high: sum::<111>(far, way.greatest),
     }
 }
 
@@ -160,9 +170,8 @@ pub fn extents_over(body: &Moving, piece: Piece) -> Extents
     let mut axes = [NOWHERE; 13];
     for a in 0..13 {
         let v = axis(a);
-        let least = least_along(v, &body.shape);
-        let greatest = greatest_along(v, &body.shape);
-        axes[a] = extent_by(least, greatest, speed_along(v, body.stroke), times);
+        let ends = ends_along(v, &body.shape);
+        axes[a] = extent_by(ends, speed_along(v, body.stroke), times);
     }
     Extents { axes }
 }

@@ -1,11 +1,12 @@
-//! Whether bodies that move with the stroke of a fixture keep clear of the panels of a carton throughout a plan, two-sided.
+//! Whether bodies that move with the stroke of a fixture keep clear of the panels of a carton
+//! throughout a plan, two-sided.
 #![tactic(auto)]
 
 mod clearing;
 mod extent;
 mod laws;
-mod looking;
 mod moving;
+mod nearness;
 mod note;
 mod passing;
 mod resting;

@@ -4,14 +4,15 @@ ghost use Rattle.carton_bodies.specs.Boxes.{IsBox};
 ghost use Rattle.carton_model.specs.Moves.{IsMotion};
 ghost use Rattle.carton_part.specs.Answers.{IsHalvedMoment};
 ghost use Rattle.carton_part.specs.Parted.{AtEachMoment};
-ghost use Rattle.carton_stroke.specs.Steps.{AreKnown, IsKnownApart, IsPartedAt, IsTouch, KeepsApart};
+ghost use Rattle.carton_stroke.specs.Steps.{AreKnown, IsKnownApart, IsPartedAt, IsTouch, IsUnpartedAt};
+ghost use Rattle.carton_stroke.specs.Steps.{KeepsApart};
 
 use crate::extent::{Extents, extents_over};
-use crate::looking::{Seen, are_apart, look};
 use crate::moving::Moving;
-use crate::world::Known;
+use crate::nearness::{Encounter, are_apart};
+use crate::world::Placements;
 use carton_base::{Moment, Motion, PanelId, Piece};
-use carton_part::next_piece;
+use carton_part::walk;
 use carton_reach::Reaches;
 use carton_tree::Carton;
 
@@ -36,17 +37,18 @@ fn touch_over(
     requires shape { IsBox body.now.shape }
     requires step { body.now.step ≤ MOST_STATES }
     requires slack { 1 ≤ slack }
-    ensures some { IfSome result (λ m. IsHalvedMoment m (λ n d. ¬ (IsPartedAt carton.now motion.now panel.0 body.now (pos 2 *ℤ pos slack) n d))) }
+    ensures some { IfSome result (λ m. IsHalvedMoment m
+        (IsUnpartedAt carton.now motion.now panel.0 body.now (pos 2 *ℤ pos slack))) }
     ensures none { result ≡ None → AtEachMoment (IsPartedAt carton.now motion.now panel.0 body.now (pos 0)) }
 {
-    let mut piece = Piece::whole();
-    loop {
-        match look(carton, motion, panel, body, piece, slack) {
-            Seen::Apart => piece = next_piece(piece)?,
-            Seen::Touching => return Some(piece.first()),
-            Seen::Open => piece = piece.halves().0,
-        }
-    }
+    let mut encounter = Encounter {
+        carton,
+        motion,
+        panel,
+        body,
+        slack,
+    };
+    walk(&mut encounter, Piece::whole()).bad
 }
 
 // Whether the panel's reach is known, and the body's extents are apart from it.
@@ -65,7 +67,7 @@ fn are_known_apart(reaches: &Option<Reaches>, extents: &Extents) -> bool
 pub fn first_touch(
     carton: &Carton,
     motion: &Motion,
-    known: &Known,
+    known: &Placements,
     body: &Moving,
     slack: u16,
 ) -> Option<Touch>

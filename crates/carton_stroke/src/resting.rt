@@ -4,10 +4,11 @@ ghost use Rattle.carton_bodies.specs.Boxes.{IsBox};
 ghost use Rattle.carton_model.specs.Moves.{IsState};
 ghost use Rattle.carton_stroke.specs.Steps.{AreNotesAlone, IsNoteAlone};
 
-use crate::looking::{Seen, look};
 use crate::moving::Moving;
+use crate::nearness::Encounter;
 use crate::note::BodyNote;
 use carton_base::{Cuboid, MOST_HALVINGS, Moment, Motion, PanelId, Piece, State};
+use carton_part::{Look, Sight};
 use carton_tree::Carton;
 
 // What is told of a box in a single state, which is looked at in the first of the smallest pieces
@@ -29,16 +30,23 @@ fn note_alone(carton: &Carton, state: &State, body: &Moving, slack: u16) -> Body
     };
     for p in 0..carton.panels() {
         let panel = PanelId(p);
-        match look(carton, &still, panel, body, piece, slack) {
-            Seen::Apart => {}
-            Seen::Touching => {
+        let mut encounter = Encounter {
+            carton,
+            motion: &still,
+            panel,
+            body,
+            slack,
+        };
+        match encounter.see(piece) {
+            Sight::Good => {}
+            Sight::Bad => {
                 return BodyNote::Touches {
                     panel,
                     step: 0,
                     moment: Moment { num: 0, den: 1 },
                 };
             }
-            Seen::Open => unreachable!(),
+            Sight::Open => unreachable!(),
         }
     }
     BodyNote::Clears

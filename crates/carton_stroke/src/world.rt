@@ -10,7 +10,7 @@ use carton_reach::{Reaches, reaches};
 use carton_tree::Carton;
 
 /// How far panels reach in the world over a whole move, each at its place.
-pub type Known = [Option<Reaches>; MOST_PANELS];
+pub type Placements = [Option<Reaches>; MOST_PANELS];
 
 /// How far the panel reaches in the world over the piece. The world is the frame of the root, from
 /// which no panel is more than 8 joints away.
@@ -29,11 +29,11 @@ pub fn reaches_in_world(carton: &Carton, motion: &Motion, panel: PanelId, piece:
 }
 
 /// How far all panels reach in the world over the whole move.
-pub fn known_over(carton: &Carton, motion: &Motion) -> Known
+pub fn known_over(carton: &Carton, motion: &Motion) -> Placements
     requires { IsMotion MOST_JOINTS motion.now }
     ensures { AreKnown carton.now motion.now carton.now.root result }
 {
-    let mut known: Known = [None; MOST_PANELS];
+    let mut known: Placements = [None; MOST_PANELS];
     for p in 0..carton.panels() {
         known[p as usize] = Some(reaches_in_world(carton, motion, PanelId(p), Piece::whole()));
     }

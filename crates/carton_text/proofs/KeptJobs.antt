@@ -1,5 +1,8 @@
 -- A job that was read keeps every rule of its text.
-use Rattle.std.proofs.Common.{◌≡◌, ◌≢◌, ℕ, ◌≤◌, ◌<◌, Bool, true, false, cond, leb, List, [], ◌∷◌, ◌++◌, length, get_or, Option, Some, None, IfSome, unwrap_or, Result, Ok, Err, refl, sym, ap, ◌∙◌, subst, All, AllPairs, arith, rules, append_assoc, length-append, codes, bytes_eq, eq-eqb, ok_or, ℤ, lit≤}
+use Rattle.std.proofs.Common.{◌≡◌, ◌≢◌, ℕ, ◌≤◌, ◌<◌, Bool, true, false, cond, leb, List, [], ◌∷◌, ◌++◌}
+use Rattle.std.proofs.Common.{length, get_or, Option, Some, None, IfSome, unwrap_or, Result, Ok, Err, refl}
+use Rattle.std.proofs.Common.{sym, ap, ◌∙◌, subst, All, AllPairs, arith, rules, append_assoc, length-append}
+use Rattle.std.proofs.Common.{codes, bytes_eq, eq-eqb, ok_or, ℤ, lit≤}
 use Rattle.std.specs.List.{list_any}
 use Rattle.std.proofs.lemmas.Bool.{leb-false}
 use Rattle.std.proofs.lemmas.List.{append-nil}
@@ -8,7 +11,8 @@ use Rattle.std.proofs.lemmas.List.Quantifiers.{all_pairs_push}
 use Rattle.std.proofs.lemmas.List.Folds.{list_any_at}
 use Rattle.std.proofs.lemmas.Grind.{flat_map-append}
 use Rattle.carton_base.specs.declared.ids.EdgeId.{EdgeId}
-use Rattle.carton_base.specs.declared.limits.TheConstants.{MOST_TEAMS, MOST_TURNS, WIDEST_MARGIN, WIDEST_SLACK, WIDEST_STEP}
+use Rattle.carton_base.specs.declared.limits.TheConstants.{MOST_TEAMS, MOST_TURNS, WIDEST_MARGIN}
+use Rattle.carton_base.specs.declared.limits.TheConstants.{WIDEST_SLACK, WIDEST_STEP}
 use Rattle.carton_base.specs.Grid.{IsGrid}
 use Rattle.carton_base.specs.Steps.{◌>>=◌, refuse_if}
 use Rattle.carton_base.proofs.Steps.{both, same_ok, not_refused, unless}
@@ -20,9 +24,11 @@ use Rattle.carton_text.specs.declared.job.Setting.{Setting}
 use Rattle.carton_text.specs.declared.job.TeamLine.{TeamLine}
 use Rattle.carton_text.specs.declared.draft.Draft.{Draft}
 use Rattle.carton_text.specs.declared.job_line.JobLine.{JobLine}
-use Rattle.carton_text.specs.declared.job_line.JobLine.TheVariants.{Root, Margin, Slack, Turns, TargetsFold, Start, Target, Team}
+use Rattle.carton_text.specs.declared.job_line.JobLine.TheVariants.{Root, Margin, Slack, Turns, TargetsFold}
+use Rattle.carton_text.specs.declared.job_line.JobLine.TheVariants.{Start, Target, Team}
 use Rattle.carton_text.specs.Grids.{stops_of}
-use Rattle.carton_text.specs.Jobs.{new_draft, is_same, once, set_once, name_each, add_team, add, grid_in, framed, first_line, later_line, job_lines, told}
+use Rattle.carton_text.specs.Jobs.{new_draft, is_same, once, set_once, name_each, add_team, add, grid_in}
+use Rattle.carton_text.specs.Jobs.{framed, first_line, later_line, job_lines, told}
 use Rattle.carton_lines.specs.Numbers.{numbers_in, from_to}
 use Rattle.carton_lines.specs.Lines.{words_of, after}
 use Rattle.carton_lines.specs.Readings.{freely_read}
@@ -41,13 +47,16 @@ none_passes {X} p xs h k d lt = by_test (p (get_or xs k d)) refl
 different : (d e : EdgeId) → is_same d e ≡ false → d ≢ e
 different d e h = λ q. let same = ap (λ x. is_same x e) q ∙ eq-eqb e.0 e.0 refl in cc
 
-set_new : (grid : ℕ) (settings xs : List Setting) (s : Setting) → AreSettings grid settings → IsSetting grid s → set_once settings s ≡ Ok xs → AreSettings grid xs
+set_new : (grid : ℕ) (settings xs : List Setting) (s : Setting) → AreSettings grid settings → IsSetting grid s
+    → set_once settings s ≡ Ok xs → AreSettings grid xs
 unfolding set_once
 set_new grid settings xs s were is h =
     let new = unless (list_any (λ t. is_same t.edge s.edge) settings) Duplicate (settings ++ s ∷ []) xs h in
     subst (AreSettings grid) (sym new.1) (record {
       each = All-push (IsSetting grid) settings s were.each is;
-      apart = all_pairs_push (λ t u. t.edge ≢ u.edge) settings s were.apart (λ k d lt. different _ s.edge (none_passes (λ t. is_same t.edge s.edge) settings new.0 k d lt));
+      apart =
+          all_pairs_push (λ t u. t.edge ≢ u.edge) settings s were.apart
+          (λ k d lt. different _ s.edge (none_passes (λ t. is_same t.edge s.edge) settings new.0 k d lt));
     })
 
 -- edges that all were new
@@ -55,18 +64,21 @@ record AreNamed (named edges out : List EdgeId) : Type 0 where
   all : out ≡ named ++ edges
   apart : AllPairs ◌≢◌ out
 
-not_told_twice : {A : Type 0} (b : Bool) (r : Result A Fault) (x : A) → cond b (Err Duplicate) r ≡ Ok x → (b ≡ false) × (r ≡ Ok x)
+not_told_twice : {A : Type 0} (b : Bool) (r : Result A Fault) (x : A) → cond b (Err Duplicate) r ≡ Ok x
+    → (b ≡ false) × (r ≡ Ok x)
 not_told_twice true r x h = cc
 not_told_twice false r x h = (refl, h)
 
-named_new : (named edges out : List EdgeId) → AllPairs ◌≢◌ named → name_each named edges ≡ Ok out → AreNamed named edges out
+named_new : (named edges out : List EdgeId) → AllPairs ◌≢◌ named → name_each named edges ≡ Ok out
+    → AreNamed named edges out
 unfolding name_each
 named_new named [] out apart h =
     let is = same_ok named out _ refl h in
     record { all = sym is ∙ sym (append-nil named); apart = subst (AllPairs ◌≢◌) is apart }
 named_new named (e ∷ es) out apart h =
     let new = not_told_twice (list_any (λ d. is_same d e) named) (name_each (named ++ e ∷ []) es) out h in
-    let more = all_pairs_push ◌≢◌ named e apart (λ i d lt. different _ e (none_passes (λ d. is_same d e) named new.0 i d lt)) in
+    let more = all_pairs_push ◌≢◌ named e apart
+    (λ i d lt. different _ e (none_passes (λ d. is_same d e) named new.0 i d lt)) in
     let rest = named_new (named ++ e ∷ []) es out more new.1 in
     record { all = rest.all ∙ append_assoc named (e ∷ []) es; apart = rest.apart }
 
@@ -89,35 +101,33 @@ pub record IsDraft (d : Draft) : Type 0 where
   pub teams : AreTeams d.teams
   pub named : d.named ≡ members d.teams
 
-told_once : {A : Type 0} (P : A → Type 0) (o : Option A) (x : A) (y : Option A) → P x → once o x ≡ Ok y → IfSome y P
+told_once : {A : Type 0} (P : A → Type 0) (o : Option A) (x : A) (y : Option A) → P x → once o x ≡ Ok y
+    → IfSome y P
 told_once P None x y p h = subst (λ z. IfSome z P) (same_ok (Some x) y _ refl h) p
 told_once P (Some z) x y p h = cc
 
-team_line : (d e : Draft) (n : ℕ) (es : List EdgeId) → IsDraft d → IsTeam es → add_team d n es ≡ Ok e → IsDraft e
+team_line : (d e : Draft) (n : ℕ) (es : List EdgeId) → IsDraft d → IsTeam es → add_team d n es ≡ Ok e
+    → IsDraft e
 unfolding add_team
 team_line d e n es k is h =
     let few = both (refuse_if (leb MOST_TEAMS (length d.teams)) Range) _ e h in
     let named = both (name_each d.named es) _ e few.2 in
     let team : TeamLine = record { line = n; edges = es } in
     let new = named_new d.named es named.0 (subst (AllPairs ◌≢◌) (sym k.named) k.teams.apart) named.1 in
-    let all : named.0 ≡ members (d.teams ++ team ∷ []) = new.all ∙ ap (λ (xs : List EdgeId). xs ++ es) k.named ∙ ap (λ (xs : List EdgeId). members d.teams ++ xs) (sym (append-nil es)) ∙ sym (flat_map-append (λ (t : TeamLine). t.edges) d.teams (team ∷ [])) in
-    let less : length d.teams < MOST_TEAMS = leb-false MOST_TEAMS (length d.teams) (not_refused _ Range few.0 few.1) in
-    subst IsDraft (same_ok _ e _ refl named.2) (record {
-      stride = k.stride;
-      margin = k.margin;
-      slack = k.slack;
-      turns = k.turns;
-      starts = k.starts;
-      targets = k.targets;
-      teams = record {
-        few = rw length-append (omega arith);
-        each = All-push (λ t. IsTeam t.edges) d.teams team k.teams.each is;
-        apart = subst (AllPairs ◌≢◌) all new.apart;
-      };
-      named = all;
-    })
+    let all : named.0 ≡ members (d.teams ++ team ∷ []) = new.all ∙ ap (λ (xs : List EdgeId). xs ++ es) k.named
+    ∙ ap (λ (xs : List EdgeId). members d.teams ++ xs) (sym (append-nil es))
+    ∙ sym (flat_map-append (λ (t : TeamLine). t.edges) d.teams (team ∷ [])) in
+    let less : length d.teams < MOST_TEAMS =
+    leb-false MOST_TEAMS (length d.teams) (not_refused _ Range few.0 few.1) in
+    let teams : AreTeams (d.teams ++ team ∷ []) = record {
+      few = rw length-append (omega arith);
+      each = All-push (λ t. IsTeam t.edges) d.teams team k.teams.each is;
+      apart = subst (AllPairs ◌≢◌) all new.apart;
+    } in
+    subst IsDraft (same_ok _ e _ refl named.2) (search rules)
 
-add_line : (d e : Draft) (n : ℕ) (l : JobLine) → IsDraft d → IsLine (stops_of d.grid) l → add d n l ≡ Ok e → IsDraft e
+add_line : (d e : Draft) (n : ℕ) (l : JobLine) → IsDraft d → IsLine (stops_of d.grid) l → add d n l ≡ Ok e
+    → IsDraft e
 unfolding add
 add_line d e n (Root p) k is h =
     let x = both (once d.root p) _ e h in
@@ -154,9 +164,15 @@ new_one grid stride is = record {
   margin = tt;
   slack = tt;
   turns = tt;
-  starts = record { each = All-nil (IsSetting (stops_of grid)); apart = λ i j d lt less. absurd (omega arith) };
-  targets = record { each = All-nil (IsSetting (stops_of grid)); apart = λ i j d lt less. absurd (omega arith) };
-  teams = record { few = omega arith; each = All-nil (λ t. IsTeam t.edges); apart = λ i j d lt less. absurd (omega arith) };
+  starts =
+      record { each = All-nil (IsSetting (stops_of grid)); apart = λ i j d lt less. absurd (omega arith) };
+  targets =
+      record { each = All-nil (IsSetting (stops_of grid)); apart = λ i j d lt less. absurd (omega arith) };
+  teams = record {
+    few = omega arith;
+    each = All-nil (λ t. IsTeam t.edges);
+    apart = λ i j d lt less. absurd (omega arith);
+  };
   named = refl;
 }
 
@@ -166,17 +182,20 @@ framed_draft zs d h =
     let p = both (two zs) _ d h in
     let grid = both (grid_in p.0.0) _ d p.2 in
     let stride = both (from_to 1 WIDEST_STEP p.0.1) _ d grid.2 in
-    subst IsDraft (same_ok _ d _ refl stride.2) (new_one grid.0 stride.0 (within 1 WIDEST_STEP p.0.1 stride.0 stride.1))
+    subst IsDraft (same_ok _ d _ refl stride.2)
+    (new_one grid.0 stride.0 (within 1 WIDEST_STEP p.0.1 stride.0 stride.1))
 
 begun : (line : List ℕ) (d : Draft) → first_line line ≡ Ok d → IsDraft d
 unfolding first_line
 begun line d h = by_test (bytes_eq line (codes "carton job 1")) h
   where
     second : Result Draft Fault
-    second = ok_or (after (codes "carton job 2 ") line) BadLine >>= λ rest. numbers_in (words_of rest) >>= framed
+    second = ok_or (after (codes "carton job 2 ") line) BadLine >>= λ rest. numbers_in (words_of rest) >>=
+        framed
 
     by_test : (b : Bool) → cond b (Ok (new_draft Eight 1)) second ≡ Ok d → IsDraft d
-    by_test true e = subst IsDraft (same_ok _ d _ refl e) (new_one Eight 1 (record { from = omega arith; upto = lit≤ tt }))
+    by_test true e =
+        subst IsDraft (same_ok _ d _ refl e) (new_one Eight 1 (record { from = omega arith; upto = lit≤ tt }))
     by_test false e =
         let rest = both (ok_or (after (codes "carton job 2 ") line) BadLine) _ d e in
         let zs = both (numbers_in (words_of rest.0)) _ d rest.2 in
@@ -192,8 +211,11 @@ told_job d k = record {
   on_grid = known_grid d.grid;
   stride = k.stride;
   margin = or_default (λ n. n ≤ WIDEST_MARGIN) d.margin 0 (omega arith) k.margin;
-  slack = or_default (IsWithin 1 WIDEST_SLACK) d.slack 1 (record { from = omega arith; upto = lit≤ tt }) k.slack;
-  turns = or_default (IsWithin 1 MOST_TURNS) d.turns MOST_TURNS (record { from = lit≤ tt; upto = omega arith }) k.turns;
+  slack = or_default (IsWithin 1 WIDEST_SLACK) d.slack 1 (record { from = omega arith; upto = lit≤ tt })
+      k.slack;
+  turns =
+      or_default (IsWithin 1 MOST_TURNS) d.turns MOST_TURNS (record { from = lit≤ tt; upto = omega arith })
+      k.turns;
   starts = k.starts;
   targets = k.targets;
   teams = k.teams;

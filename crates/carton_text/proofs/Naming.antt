@@ -7,7 +7,8 @@ use Rattle.carton_lines.specs.declared.fault.Fault.TheVariants.{Duplicate}
 use Rattle.carton_text.specs.Jobs.{is_same, name_each}
 
 -- the next edge is new
-pub goes_on : (named edges : List EdgeId) (e : EdgeId) (rest : List EdgeId) (total : Result (List EdgeId) Fault) → edges ≡ e ∷ rest → list_any (λ d. is_same d e) named ≡ false
+pub goes_on : (named edges : List EdgeId) (e : EdgeId) (rest : List EdgeId)
+    (total : Result (List EdgeId) Fault) → edges ≡ e ∷ rest → list_any (λ d. is_same d e) named ≡ false
     → name_each named edges ≡ total → name_each (named ++ e ∷ []) rest ≡ total
 unfolding name_each
 goes_on named edges e rest total h new so_far =
@@ -15,7 +16,8 @@ goes_on named edges e rest total h new so_far =
     sym one ∙ so_far
 
 -- the next edge was named before
-pub ends : (named edges : List EdgeId) (e : EdgeId) (rest : List EdgeId) (total : Result (List EdgeId) Fault) → edges ≡ e ∷ rest → list_any (λ d. is_same d e) named ≡ true
+pub ends : (named edges : List EdgeId) (e : EdgeId) (rest : List EdgeId) (total : Result (List EdgeId) Fault)
+    → edges ≡ e ∷ rest → list_any (λ d. is_same d e) named ≡ true
     → name_each named edges ≡ total → total ≡ Err Duplicate
 unfolding name_each
 ends named edges e rest total h old so_far =
@@ -23,7 +25,8 @@ ends named edges e rest total h old so_far =
     sym so_far ∙ one
 
 -- no edge is left
-pub is_done : (named edges : List EdgeId) (total : Result (List EdgeId) Fault) → edges ≡ [] → name_each named edges ≡ total → total ≡ Ok named
+pub is_done : (named edges : List EdgeId) (total : Result (List EdgeId) Fault) → edges ≡ []
+    → name_each named edges ≡ total → total ≡ Ok named
 unfolding name_each
 is_done named edges total h so_far =
     let one : name_each named edges ≡ Ok named = rw h refl in

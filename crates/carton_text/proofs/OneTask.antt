@@ -1,5 +1,6 @@
 -- The task of a job is the same on all cartons of a dieline, and its outline determines it.
-use Rattle.std.proofs.Common.{◌≡◌, ℕ, ◌<◌, Bool, true, false, ◌||◌, List, [], ◌∷◌, length, filter_map, arith, sym, ◌∙◌, ap, subst, refl, eq-eqb, eqb-true, Err, Option, Some, None}
+use Rattle.std.proofs.Common.{◌≡◌, ℕ, ◌<◌, Bool, true, false, ◌||◌, List, [], ◌∷◌, length, filter_map, arith}
+use Rattle.std.proofs.Common.{sym, ◌∙◌, ap, subst, refl, eq-eqb, eqb-true, Err, Option, Some, None}
 use Rattle.std.specs.Prelude.{IsSomeAnd, is_none, if◌then◌else◌, find, not}
 use Rattle.std.specs.Cmp.{both_ways}
 use Rattle.std.specs.List.{list_any, cons_option}

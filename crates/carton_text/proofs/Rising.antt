@@ -1,5 +1,6 @@
 -- Numbers each of which is less than the next.
-use Rattle.std.proofs.Common.{◌≡◌, ◌≤◌, ◌<◌, ℤ, pos, List, [], ◌∷◌, length, map, true, zero, suc, refl, arith, int_lt}
+use Rattle.std.proofs.Common.{◌≡◌, ◌≤◌, ◌<◌, ℤ, pos, List, [], ◌∷◌, length, map, true, zero, suc, refl, arith}
+use Rattle.std.proofs.Common.{int_lt}
 use Rattle.std.specs.Prelude.{AllPairs, ⊤}
 use Rattle.std.specs.List.{AllByRecursion}
 use Rattle.std.proofs.lemmas.Bool.{ltb-true, lt-ltb, and_parts, and_from}
@@ -18,7 +19,8 @@ Before d e = d.0 < e.0
 abbrev pub numbers_of : List EdgeId → List ℤ
 numbers_of es = map (λ e. pos e.0) es
 
-after_all : (d e : EdgeId) (es : List EdgeId) → Before d e → AllByRecursion (Before e) es → AllByRecursion (Before d) es
+after_all : (d e : EdgeId) (es : List EdgeId) → Before d e → AllByRecursion (Before e) es
+    → AllByRecursion (Before d) es
 after_all d e [] lt h = tt
 after_all d e (f ∷ es) lt h = (omega (arith, h.0), after_all d e es lt h.1)
 
@@ -39,14 +41,16 @@ rising (d ∷ e ∷ es) h =
 increasing : (es : List EdgeId) → Rising es → is_increasing (numbers_of es) ≡ true
 increasing [] h = refl
 increasing (e ∷ []) h = refl
-increasing (d ∷ e ∷ es) h = and_from (int_lt (pos d.0) (pos e.0)) (is_increasing (numbers_of (e ∷ es))) (lt-ltb d.0 e.0 h.0.0) (increasing (e ∷ es) h.1)
+increasing (d ∷ e ∷ es) h = and_from (int_lt (pos d.0) (pos e.0)) (is_increasing (numbers_of (e ∷ es)))
+    (lt-ltb d.0 e.0 h.0.0) (increasing (e ∷ es) h.1)
 
 pairs_from_rising : (es : List EdgeId) → Rising es → AllPairs Before es
 pairs_from_rising [] h i j d lt less = absurd (omega arith)
 pairs_from_rising (e ∷ es) h zero zero d lt less = absurd (omega arith)
 pairs_from_rising (e ∷ es) h zero (suc j) d lt less = All-from_recursion (Before e) es h.0 j d (omega arith)
 pairs_from_rising (e ∷ es) h (suc i) zero d lt less = absurd (omega arith)
-pairs_from_rising (e ∷ es) h (suc i) (suc j) d lt less = pairs_from_rising es h.1 i j d (omega arith) (omega arith)
+pairs_from_rising (e ∷ es) h (suc i) (suc j) d lt less =
+    pairs_from_rising es h.1 i j d (omega arith) (omega arith)
 
 rising_from_pairs : (es : List EdgeId) → AllPairs Before es → Rising es
 rising_from_pairs [] h = tt

@@ -1,5 +1,6 @@
 -- The lines of a job, each by itself.
-use Rattle.std.specs.Prelude.{ℕ, ◌*◌, ℤ, List, [], ◌∷◌, length, nat_eq, nat_lt, bytes_eq, if◌then◌else◌, Option, Some, None, ok_or, Result, Ok, Err, codes}
+use Rattle.std.specs.Prelude.{ℕ, ◌*◌, ℤ, List, [], ◌∷◌, length, nat_eq, nat_lt, bytes_eq, if◌then◌else◌}
+use Rattle.std.specs.Prelude.{Option, Some, None, ok_or, Result, Ok, Err, codes}
 use Rattle.carton_base.specs.declared.limits.TheConstants.{MOST_TURNS, WIDEST_MARGIN, WIDEST_SLACK}
 use Rattle.carton_base.specs.declared.ids.EdgeId.{EdgeId}
 use Rattle.carton_lines.specs.declared.fault.Fault.{Fault}
@@ -8,9 +9,13 @@ use Rattle.carton_text.specs.declared.grid.Grid.{Grid}
 use Rattle.carton_text.specs.declared.job.Setting.{Setting}
 use Rattle.carton_text.specs.declared.job_line.TheConstants.{LAST_EDGE, MOST_MEMBERS}
 use Rattle.carton_text.specs.declared.job_line.Keyword.{Keyword}
-use Rattle.carton_text.specs.declared.job_line.Keyword.TheVariants.{Root, Margin, Slack, Turns, Start, Target, Team}
+use Rattle.carton_text.specs.declared.job_line.Keyword.TheVariants.{Root, Margin, Slack, Turns, Start, Target}
+use Rattle.carton_text.specs.declared.job_line.Keyword.TheVariants.{Team}
 use Rattle.carton_text.specs.declared.job_line.JobLine.{JobLine}
-use Rattle.carton_text.specs.declared.job_line.JobLine.TheVariants.{Root as RootLine, Margin as MarginLine, Slack as SlackLine, Turns as TurnsLine, TargetsFold, Start as StartLine, Target as TargetLine, Team as TeamLine}
+use Rattle.carton_text.specs.declared.job_line.JobLine.TheVariants.{Root as RootLine, Margin as MarginLine}
+use Rattle.carton_text.specs.declared.job_line.JobLine.TheVariants.{Slack as SlackLine, Turns as TurnsLine}
+use Rattle.carton_text.specs.declared.job_line.JobLine.TheVariants.{TargetsFold, Start as StartLine}
+use Rattle.carton_text.specs.declared.job_line.JobLine.TheVariants.{Target as TargetLine, Team as TeamLine}
 use Rattle.carton_base.specs.Steps.{◌>>=◌, refuse_if, entries_from}
 use Rattle.carton_lines.specs.Numbers.{numbers_in, from_to, at_most}
 use Rattle.carton_text.specs.Grids.{stops_of}
@@ -76,4 +81,5 @@ worded grid (word ∷ words) = do
 
 -- a line between the first and the last
 unfoldable pub line_in : Grid → List ℕ → Result JobLine Fault
-line_in grid line = if bytes_eq line (codes "targets fold") then Ok TargetsFold else worded grid (words_of line)
+line_in grid line = if bytes_eq line (codes "targets fold") then Ok TargetsFold else worded grid
+    (words_of line)

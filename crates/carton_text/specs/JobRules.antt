@@ -1,6 +1,7 @@
 -- The rules that a job keeps.
 use Rattle.std.specs.Prelude.{◌≢◌, ℕ, ◌*◌, ◌<◌, ◌≤◌, List, length, All, AllPairs, flat_map, unsigned_abs}
-use Rattle.carton_base.specs.declared.limits.TheConstants.{MOST_EDGES, MOST_TEAMS, MOST_TURNS, WIDEST_MARGIN, WIDEST_SLACK, WIDEST_STEP}
+use Rattle.carton_base.specs.declared.limits.TheConstants.{MOST_EDGES, MOST_TEAMS, MOST_TURNS, WIDEST_MARGIN}
+use Rattle.carton_base.specs.declared.limits.TheConstants.{WIDEST_SLACK, WIDEST_STEP}
 use Rattle.carton_base.specs.declared.ids.EdgeId.{EdgeId}
 use Rattle.carton_base.specs.Grid.{IsGrid}
 use Rattle.carton_text.specs.declared.job.Job.{Job}

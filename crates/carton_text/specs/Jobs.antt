@@ -1,5 +1,7 @@
 -- The job of a text, or the first rule that fails.
-use Rattle.std.specs.Prelude.{ℕ, ℤ, pos, ◌++◌, List, [], ◌∷◌, length, nat_eq, nat_le, bytes_eq, Bool, true, false, if◌then◌else◌, Option, Some, None, unwrap_or, ok_or, Result, Ok, Err, codes}
+use Rattle.std.specs.Prelude.{ℕ, ℤ, pos, ◌++◌, List, [], ◌∷◌, length, nat_eq, nat_le, bytes_eq, Bool, true}
+use Rattle.std.specs.Prelude.{false, if◌then◌else◌, Option, Some, None, unwrap_or, ok_or, Result, Ok, Err}
+use Rattle.std.specs.Prelude.{codes}
 use Rattle.std.specs.List.{list_any}
 use Rattle.std.specs.Ordering.{int_eq}
 use Rattle.carton_base.specs.declared.limits.TheConstants.{MOST_TEAMS, MOST_TURNS, WIDEST_STEP}
@@ -12,7 +14,8 @@ use Rattle.carton_text.specs.declared.grid.Grid.TheVariants.{Eight, Sixteen}
 use Rattle.carton_text.specs.declared.job.Job.{Job}
 use Rattle.carton_text.specs.declared.job.Setting.{Setting}
 use Rattle.carton_text.specs.declared.job_line.JobLine.{JobLine}
-use Rattle.carton_text.specs.declared.job_line.JobLine.TheVariants.{Root, Margin, Slack, Turns, TargetsFold, Start, Target, Team}
+use Rattle.carton_text.specs.declared.job_line.JobLine.TheVariants.{Root, Margin, Slack, Turns, TargetsFold}
+use Rattle.carton_text.specs.declared.job_line.JobLine.TheVariants.{Start, Target, Team}
 use Rattle.carton_text.specs.declared.draft.Draft.{Draft}
 use Rattle.carton_base.specs.Steps.{◌>>=◌, refuse_if}
 use Rattle.carton_text.specs.Grids.{stops_of}
@@ -49,12 +52,14 @@ is_same d e = nat_eq d.0 e.0
 
 -- the settings with one more, of an edge that none of them sets
 unfoldable pub set_once : List Setting → Setting → Result (List Setting) Fault
-set_once settings s = if list_any (λ t. is_same t.edge s.edge) settings then Err Duplicate else Ok (settings ++ s ∷ [])
+set_once settings s = if list_any (λ t. is_same t.edge s.edge) settings then Err Duplicate else Ok
+    (settings ++ s ∷ [])
 
 -- the edges named so far with those of one more line, each of which is new
 unfoldable pub name_each : List EdgeId → List EdgeId → Result (List EdgeId) Fault
 name_each named [] = Ok named
-name_each named (e ∷ es) = if list_any (λ d. is_same d e) named then Err Duplicate else name_each (named ++ e ∷ []) es
+name_each named (e ∷ es) = if list_any (λ d. is_same d e) named then Err Duplicate else name_each
+    (named ++ e ∷ []) es
 
 -- one more team, told in line n
 unfoldable pub add_team : Draft → ℕ → List EdgeId → Result Draft Fault

@@ -1,5 +1,7 @@
 -- The plan of a text, or the first rule that fails; and the text of a plan.
-use Rattle.std.specs.Prelude.{◌≡◌, ◌↔◌, ℕ, ◌*◌, ℤ, pos, ◌++◌, List, [], ◌∷◌, length, map, flat_map, int_lt, not, nat_eq, nat_lt, nat_le, bytes_eq, ◌&&◌, Bool, true, false, if◌then◌else◌, Result, Ok, Err, codes}
+use Rattle.std.specs.Prelude.{◌≡◌, ◌↔◌, ℕ, ◌*◌, ℤ, pos, ◌++◌, List, [], ◌∷◌, length, map, flat_map, int_lt}
+use Rattle.std.specs.Prelude.{not, nat_eq, nat_lt, nat_le, bytes_eq, ◌&&◌, Bool, true, false, if◌then◌else◌}
+use Rattle.std.specs.Prelude.{Result, Ok, Err, codes}
 use Rattle.std.specs.List.{range_with_len}
 use Rattle.carton_base.specs.declared.limits.TheConstants.{MOST_STATES}
 use Rattle.carton_base.specs.declared.ids.EdgeId.{EdgeId}
@@ -71,7 +73,8 @@ begun line = grid_told line >>= λ grid. Ok (Headed grid)
 
 -- the second line tells the creases, and each later one a state
 abbrev pub plan_line : PlanReading → ℕ → List ℕ → Result PlanReading Fault
-plan_line (Headed grid) n line = creases_told line >>= λ creases. Ok (Within (record { grid = grid; creases = creases; states = [] }))
+plan_line (Headed grid) n line =
+    creases_told line >>= λ creases. Ok (Within (record { grid = grid; creases = creases; states = [] }))
 plan_line (Within d) n line = with_state d line >>= λ e. Ok (Within e)
 
 -- `end` ends a plan that has a state
@@ -110,7 +113,9 @@ state_line joints s = spelled (codes "state") (joint_stops joints s)
 
 -- the one spelling of a plan
 abbrev pub spelling : Plan → List ℕ
-spelling p = first_line (grid_of p.states) ++ (creases_line p.creases ++ (flat_map (state_line (length p.creases)) p.states ++ codes "end\n"))
+spelling p =
+    first_line (grid_of p.states)
+    ++ (creases_line p.creases ++ (flat_map (state_line (length p.creases)) p.states ++ codes "end\n"))
 
 -- the text is read as a plan exactly where it is the plan's spelling and the plan keeps its rules
 abbrev pub HasOneSpelling : List ℕ → Type 0

@@ -1,6 +1,7 @@
 -- The rules that a task keeps.
 use Rattle.std.specs.Prelude.{◌≢◌, ℕ, ◌<◌, ◌≤◌, List, length, All, AllPairs, flat_map}
-use Rattle.carton_base.specs.declared.limits.TheConstants.{MOST_JOINTS, MOST_TEAMS, MOST_TURNS, WIDEST_SLACK, WIDEST_STEP}
+use Rattle.carton_base.specs.declared.limits.TheConstants.{MOST_JOINTS, MOST_TEAMS, MOST_TURNS, WIDEST_SLACK}
+use Rattle.carton_base.specs.declared.limits.TheConstants.{WIDEST_STEP}
 use Rattle.carton_model.specs.Moves.{IsState}
 use Rattle.carton_text.specs.declared.task.Task.{Task}
 use Rattle.carton_text.specs.declared.task.Team.{Team}

@@ -1,5 +1,8 @@
 -- The task of a job: which joints go from where to where, in which teams; or the first rule that fails.
-use Rattle.std.specs.Prelude.{ℕ, ◌+◌, ◌/◌, ℤ, pos, ◌*ℤ◌, List, [], ◌∷◌, ◌++◌, length, map, filter_map, find, slice_get, slice_index_or, nat_lt, not, ◌&&◌, Bool, true, if◌then◌else◌, Option, Some, None, is_none, option_map, option_and_then, unwrap_or, ok_or, Result, Ok, Err}
+use Rattle.std.specs.Prelude.{ℕ, ◌+◌, ◌/◌, ℤ, pos, ◌*ℤ◌, List, [], ◌∷◌, ◌++◌, length, map, filter_map, find}
+use Rattle.std.specs.Prelude.{slice_get, slice_index_or, nat_lt, not, ◌&&◌, Bool, true, if◌then◌else◌, Option}
+use Rattle.std.specs.Prelude.{Some, None, is_none, option_map, option_and_then, unwrap_or, ok_or, Result, Ok}
+use Rattle.std.specs.Prelude.{Err}
 use Rattle.std.specs.List.{list_any, range_with_len}
 use Rattle.std.specs.Ordering.{int_eq}
 use Rattle.carton_base.specs.Steps.{◌>>=◌, refuse_if, entries_from}
@@ -13,7 +16,8 @@ use Rattle.carton_text.specs.declared.course.Course.{Course}
 use Rattle.carton_text.specs.declared.task.Task.{Task}
 use Rattle.carton_text.specs.declared.task.Team.{Team}
 use Rattle.carton_text.specs.declared.job_error.JobError.{JobError}
-use Rattle.carton_text.specs.declared.job_error.JobError.TheVariants.{NotAJoint, LockedEdge, NoAngles, AngleNotExact, EmptyTeam, TooManyTeams}
+use Rattle.carton_text.specs.declared.job_error.JobError.TheVariants.{NotAJoint, LockedEdge, NoAngles}
+use Rattle.carton_text.specs.declared.job_error.JobError.TheVariants.{AngleNotExact, EmptyTeam, TooManyTeams}
 use Rattle.carton_text.specs.Jobs.{is_same}
 use Rattle.carton_text.specs.JobRules.{members}
 
@@ -49,11 +53,13 @@ on_grid grid s = record { 0 = s.0 *ℤ pos (grid / 8) }
 
 -- the stop that the file's angle of an edge has
 abbrev pub file_stop : ℕ → Option (List (Option Stop)) → EdgeId → Option Stop
-file_stop grid angles e = option_map (on_grid grid) (option_and_then (λ o. o) (option_and_then (λ a. slice_get a e.0) angles))
+file_stop grid angles e =
+    option_map (on_grid grid) (option_and_then (λ o. o) (option_and_then (λ a. slice_get a e.0) angles))
 
 -- where a joint goes that no target line names
 abbrev pub target_unset : Job → Option (List (Option Stop)) → EdgeId → Result Stop JobError
-target_unset job angles e = if job.from_file then ok_or (file_stop job.grid angles e) (AngleNotExact e) else Ok flat
+target_unset job angles e = if job.from_file then ok_or (file_stop job.grid angles e) (AngleNotExact e) else
+    Ok flat
 
 -- where a joint goes whose target line has the stop, if it has one
 abbrev pub target_or : Result Stop JobError → Option Stop → Result Stop JobError
@@ -93,7 +99,8 @@ team_of courses t = do
 abbrev pub lone_teams : List EdgeId → ℕ → List Course → List Team
 lone_teams named k [] = []
 lone_teams named k (c ∷ courses) =
-    if moves c && not (is_among c.edge named) then (record { places = k ∷ [] }) ∷ lone_teams named (k + 1) courses
+    if moves c && not (is_among c.edge named) then (record { places = k ∷ [] })
+    ∷ lone_teams named (k + 1) courses
     else lone_teams named (k + 1) courses
 
 -- as many teams as there may be
@@ -138,10 +145,9 @@ outline t = record {
   turns = t.turns;
 }
 
--- the task of a job on a carton with these free joints and these locked ones, whose file has these angles
-unfoldable pub task_of : List EdgeId → List EdgeId → Option (List (Option Stop)) → Job → Result Outline JobError
-task_of creases locked angles job = do
-  fine ← only_joints creases locked job
+-- the task of a job that names free joints alone, on a carton with these and whose file has these angles
+abbrev pub outline_of : List EdgeId → Option (List (Option Stop)) → Job → Result Outline JobError
+outline_of creases angles job = do
   fine ← refuse_if (job.from_file && is_none angles) NoAngles
   courses ← entries_from (λ i. course_of job angles) 0 creases
   teams ← teams_of job.teams courses
@@ -155,3 +161,10 @@ task_of creases locked angles job = do
     slack = job.slack;
     turns = job.turns;
   })
+
+-- the task of a job on a carton with these free joints and these locked ones
+unfoldable pub task_of : List EdgeId → List EdgeId → Option (List (Option Stop)) → Job
+    → Result Outline JobError
+task_of creases locked angles job = do
+  fine ← only_joints creases locked job
+  outline_of creases angles job

@@ -4,7 +4,8 @@ ghost use Rattle.carton_model.specs.Dielines.{IsDieline};
 ghost use Rattle.carton_text.specs.JobRules.{IsJob};
 ghost use Rattle.carton_text.specs.TaskRules.{IsTask};
 ghost use Rattle.carton_text.specs.Tasks.{outline};
-ghost use Rattle.carton_text.specs.CartonTasks.{given, locked_edge as locked_edge_in, locked_joints as locked_joints_in, task_for};
+ghost use Rattle.carton_text.specs.CartonTasks.{given, locked_edge as locked_edge_in};
+ghost use Rattle.carton_text.specs.CartonTasks.{locked_joints as locked_joints_in, task_for};
 
 use crate::fitting::fitted;
 use crate::job::Job;

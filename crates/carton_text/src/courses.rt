@@ -3,7 +3,9 @@ ghost use Rattle.carton_base.specs.Grid.{IsGrid};
 ghost use Rattle.carton_base.specs.Steps.{Gives, entries_from};
 ghost use Rattle.carton_model.specs.Dielines.{IsDieline};
 ghost use Rattle.carton_text.specs.JobRules.{IsJob};
-ghost use Rattle.carton_text.specs.Tasks.{stop_set as stop_set_in, on_grid as on_grid_in, file_stop as file_stop_in, target_unset as target_unset_in, target_or, course_of};
+ghost use Rattle.carton_text.specs.Tasks.{stop_set as stop_set_in, on_grid as on_grid_in};
+ghost use Rattle.carton_text.specs.Tasks.{file_stop as file_stop_in, target_unset as target_unset_in};
+ghost use Rattle.carton_text.specs.Tasks.{target_or, course_of};
 
 use crate::course::Course;
 use crate::job::{Job, Setting};
@@ -66,7 +68,8 @@ fn target_unset(job: &Job, raw: &RawDieline, edge: EdgeId) -> Result<Stop, JobEr
 fn target(job: &Job, raw: &RawDieline, edge: EdgeId) -> Result<Stop, JobError>
     requires job { IsJob job.now }
     requires dieline { IsDieline raw.now }
-    ensures { result ≡ target_or (target_unset_in job.now raw.now.angles edge) (stop_set_in job.now.targets edge) }
+    ensures { result ≡ target_or (target_unset_in job.now raw.now.angles edge) (stop_set_in job.now.targets
+        edge) }
 {
     match stop_set(job.targets.as_slice(), edge) {
         Some(stop) => Ok(stop),
@@ -98,7 +101,8 @@ pub fn courses(
 ) -> Result<Vec<Course>, JobError>
     requires job { IsJob job.now }
     requires dieline { IsDieline raw.now }
-    ensures value { Gives JobError.Memory (λ v. v.items) result (entries_from (λ i. course_of job.now raw.now.angles) 0 creases.now) }
+    ensures value { Gives JobError.Memory (λ v. v.items) result
+        (entries_from (λ i. course_of job.now raw.now.angles) 0 creases.now) }
     ensures count { IfOk result (λ v. length v.items ≡ length creases.now) }
 {
     let mut found = Vec::new(alloc);

@@ -4,7 +4,8 @@ ghost use Rattle.carton_base.specs.declared.limits.TheConstants.{MOST_JOINTS};
 ghost use Rattle.carton_model.specs.Dielines.{IsDieline};
 ghost use Rattle.carton_text.specs.JobRules.{IsJob};
 ghost use Rattle.carton_text.specs.TaskRules.{IsTask};
-ghost use Rattle.carton_text.specs.Tasks.{stop_at as stop_at_in, all_stops as all_stops_in, outline, task_of};
+ghost use Rattle.carton_text.specs.Tasks.{stop_at as stop_at_in, all_stops as all_stops_in, outline};
+ghost use Rattle.carton_text.specs.Tasks.{outline_of, task_of};
 
 use crate::course::Course;
 use crate::courses::courses;
@@ -54,20 +55,12 @@ fn copied(alloc: Global, edges: &[EdgeId]) -> Result<Vec<EdgeId>, AllocError>
     edges.iter().copied().collect(alloc)
 }
 
-#[tactic(auto, unfolding(crate::specs::Tasks::task_of))]
-fn made_task(
-    alloc: Global,
-    creases: &[EdgeId],
-    locked: &[EdgeId],
-    raw: &RawDieline,
-    job: &Job,
-) -> Result<Task, JobError>
+fn made(alloc: Global, creases: &[EdgeId], raw: &RawDieline, job: &Job) -> Result<Task, JobError>
     requires few { length creases.now ≤ MOST_JOINTS }
     requires dieline { IsDieline raw.now }
     requires job { IsJob job.now }
-    ensures { Gives JobError.Memory outline result (task_of creases.now locked.now raw.now.angles job.now) }
+    ensures { Gives JobError.Memory outline result (outline_of creases.now raw.now.angles job.now) }
 {
-    only_joints(creases, locked, job)?;
     if job.from_file && raw.angles.is_none() {
         return Err(JobError::NoAngles);
     }
@@ -99,6 +92,7 @@ fn made_task(
 /// # Errors
 ///
 /// The first rule by which the job doesn't fit, or `Memory`.
+#[tactic(auto, unfolding(crate::specs::Tasks::task_of))]
 pub fn fitted(
     alloc: Global,
     creases: &[EdgeId],
@@ -109,8 +103,10 @@ pub fn fitted(
     requires few { length creases.now ≤ MOST_JOINTS }
     requires dieline { IsDieline raw.now }
     requires job { IsJob job.now }
-    ensures fits { Gives JobError.Memory outline result (task_of creases.now locked.now raw.now.angles job.now) }
+    ensures fits { Gives JobError.Memory outline result
+        (task_of creases.now locked.now raw.now.angles job.now) }
     ensures keeps_rules { IfOk result IsTask }
 {
-    made_task(alloc, creases, locked, raw, job)
+    only_joints(creases, locked, job)?;
+    made(alloc, creases, raw, job)
 }

@@ -1,7 +1,8 @@
 ghost use Rattle.std.specs.Prelude.{◌≡◌, map, option_map, Result, Ok, Err};
 ghost use Rattle.carton_base.specs.Steps.{entries_from};
 ghost use Rattle.carton_lines.specs.Lines.{Gives};
-ghost use Rattle.carton_text.specs.JobLines.{one as one_in, two as two_in, edge_in, setting_in, team_in, keyword_in, numbered, worded, line_in};
+ghost use Rattle.carton_text.specs.JobLines.{one as one_in, two as two_in, edge_in, setting_in, team_in};
+ghost use Rattle.carton_text.specs.JobLines.{keyword_in, numbered, worded, line_in};
 
 use crate::grid::Grid;
 use crate::job::Setting;

@@ -3,7 +3,8 @@ ghost use Rattle.carton_base.specs.Steps.{entries_from};
 ghost use Rattle.carton_text.specs.Grids.{stops_of};
 ghost use Rattle.carton_lines.specs.Lines.{Gives};
 ghost use Rattle.carton_lines.specs.Numbers.{at_most};
-ghost use Rattle.carton_text.specs.Plans.{grid_told as grid_told_in, is_increasing as is_increasing_in, creases_told as creases_told_in, stops_told as stops_told_in};
+ghost use Rattle.carton_text.specs.Plans.{grid_told as grid_told_in, is_increasing as is_increasing_in};
+ghost use Rattle.carton_text.specs.Plans.{creases_told as creases_told_in, stops_told as stops_told_in};
 
 use crate::grid::Grid;
 use crate::job_line::edges;

@@ -63,7 +63,7 @@ impl PlanReading {
 /// # Errors
 ///
 /// The fault of the first line that has one, `NoEnd`, or `Memory`.
-#[tactic(auto, unfolding(crate::specs::Plans::plan_of))]
+#[tactic(auto, using(crate::proofs::OneSpelling::one_spelling), unfolding(crate::specs::Plans::plan_of))]
 pub fn read_plan(alloc: Global, bytes: &[u8]) -> Result<Plan, LineError>
     ensures reads { GivesLines plain result (plan_of bytes.now) }
     ensures keeps_rules { IfOk result IsPlan }

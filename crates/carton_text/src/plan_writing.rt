@@ -2,7 +2,8 @@ ghost use Rattle.std.specs.Prelude.{◌≡◌, ◌≤◌, ◌++◌, map, flat_ma
 ghost use Rattle.carton_base.specs.declared.limits.TheConstants.{MOST_JOINTS};
 ghost use Rattle.carton_lines.specs.StrictLines.{spaced};
 ghost use Rattle.carton_text.specs.PlanRules.{grid_of, IsPlan};
-ghost use Rattle.carton_text.specs.Plans.{first_line as first_line_in, creases_line, joint_stops, state_line, spelling};
+ghost use Rattle.carton_text.specs.Plans.{first_line as first_line_in, creases_line, joint_stops};
+ghost use Rattle.carton_text.specs.Plans.{state_line, spelling};
 
 use crate::plan::Plan;
 use carton_base::{EdgeId, OutOfMemory, State};
@@ -18,7 +19,8 @@ fn first_line(states: &[State]) -> &'static str
 }
 
 fn write_edges(text: &mut String, creases: &[EdgeId]) -> Result<(), AllocError>
-    ensures { OnOk result (string_bytes text.new ≡ string_bytes text.old ++ flat_map spaced (map (λ e. pos e.0) creases.now)) }
+    ensures { OnOk result
+        (string_bytes text.new ≡ string_bytes text.old ++ flat_map spaced (map (λ e. pos e.0) creases.now)) }
 {
     for crease in creases {
         let edge = crease.0;
@@ -37,7 +39,8 @@ fn write_creases(text: &mut String, creases: &[EdgeId]) -> Result<(), AllocError
 
 fn write_stops(text: &mut String, state: &State, joints: usize) -> Result<(), AllocError>
     requires { joints ≤ MOST_JOINTS }
-    ensures { OnOk result (string_bytes text.new ≡ string_bytes text.old ++ flat_map spaced (joint_stops joints state.now)) }
+    ensures { OnOk result
+        (string_bytes text.new ≡ string_bytes text.old ++ flat_map spaced (joint_stops joints state.now)) }
 {
     for place in 0..joints {
         let stop = state.stops[place];
@@ -57,23 +60,13 @@ fn write_state(text: &mut String, state: &State, joints: usize) -> Result<(), Al
 
 fn write_states(text: &mut String, states: &[State], joints: usize) -> Result<(), AllocError>
     requires { joints ≤ MOST_JOINTS }
-    ensures { OnOk result (string_bytes text.new ≡ string_bytes text.old ++ flat_map (state_line joints) states.now) }
+    ensures { OnOk result
+        (string_bytes text.new ≡ string_bytes text.old ++ flat_map (state_line joints) states.now) }
 {
     for state in states {
         write_state(text, state, joints)?;
     }
     Ok(())
-}
-
-fn written(alloc: Global, plan: &Plan) -> Result<String, AllocError>
-    requires { length plan.now.creases ≤ MOST_JOINTS }
-    ensures { IfOk result (λ text. string_bytes text ≡ spelling plan.now) }
-{
-    let mut text = String::from_str(alloc, first_line(plan.states.as_slice()))?;
-    write_creases(&mut text, plan.creases.as_slice())?;
-    write_states(&mut text, plan.states.as_slice(), plan.creases.len())?;
-    text.push_str("end\n")?;
-    Ok(text)
 }
 
 /// The bytes of a plan's text.
@@ -85,5 +78,9 @@ pub fn write_plan(alloc: Global, plan: &Plan) -> Result<Vec<u8>, OutOfMemory>
     requires { IsPlan plan.now }
     ensures { IfOk result (λ v. v.items ≡ spelling plan.now) }
 {
-    Ok(written(alloc, plan)?.into_bytes())
+    let mut text = String::from_str(alloc, first_line(plan.states.as_slice()))?;
+    write_creases(&mut text, plan.creases.as_slice())?;
+    write_states(&mut text, plan.states.as_slice(), plan.creases.len())?;
+    text.push_str("end\n")?;
+    Ok(text.into_bytes())
 }

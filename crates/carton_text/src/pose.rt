@@ -1,4 +1,5 @@
-ghost use Rattle.std.specs.Prelude.{◌≡◌, ℕ, ◌<◌, ◌≤◌, List, length, take, All, pos, slice_index_or, string_bytes, IfOk};
+ghost use Rattle.std.specs.Prelude.{◌≡◌, ℕ, ◌<◌, ◌≤◌, List, length, take, All, pos, slice_index_or};
+ghost use Rattle.std.specs.Prelude.{string_bytes, IfOk};
 ghost use Rattle.carton_base.specs.declared.limits.TheConstants.{LONGEST_PATH, MOST_JOINTS};
 ghost use Rattle.carton_model.specs.Moves.{IsState};
 ghost use Rattle.carton_model.specs.Points.{IsNearPoint};
@@ -7,7 +8,8 @@ ghost use Rattle.carton_panels.specs.Shapes.{Shape};
 ghost use Rattle.carton_place.specs.Held.{HoldSwings, IsSwingWithin};
 ghost use Rattle.carton_place.specs.States.{fold_in};
 ghost use Rattle.carton_tree.specs.Cartons.{IsCarton};
-ghost use Rattle.carton_text.specs.Poses.{spot_line as spot_line_of, IsSpotLine, ArePieces, ArePanelLines, IsPose};
+ghost use Rattle.carton_text.specs.Poses.{spot_line as spot_line_of, IsSpotLine, ArePieces, ArePanelLines};
+ghost use Rattle.carton_text.specs.Poses.{IsPose};
 
 use crate::spot::{Spot, spot_of};
 use carton_base::{LONGEST_PATH, Motion, OutOfMemory, PanelId, Piece, State, Triple, Turn};
@@ -21,7 +23,8 @@ fn still_swings(turns: &[Turn], state: &State) -> [Swing; LONGEST_PATH]
     requires turns { All IsTurn turns.now }
     requires state { IsState MOST_JOINTS state.now }
     ensures length { length result ≡ LONGEST_PATH }
-    ensures holds { HoldSwings (take (length turns.now) result) 0 1 (angles_of (fold_in state.now) turns.now) }
+    ensures holds { HoldSwings (take (length turns.now) result) 0 1
+        (angles_of (fold_in state.now) turns.now) }
     ensures still { All (IsSwingWithin 2) (take (length turns.now) result) }
 {
     let motion = Motion {
@@ -51,7 +54,9 @@ fn corner_lines(
     requires still { All (IsSwingWithin 2) swings.now }
     requires near { All IsNearPoint corners.now }
     ensures { (angles : List Angle) → HoldSwings swings.now 0 1 angles
-        → IfOk result (λ text. ArePieces (λ k corner. IsSpotLine panel k (turned_through turns.now angles (laid corner))) 0 corners.now (string_bytes text)) }
+        → IfOk result (λ text.
+        ArePieces (λ k corner. IsSpotLine panel k (turned_through turns.now angles (laid corner))) 0
+        corners.now (string_bytes text)) }
 {
     let mut text = String::new(alloc);
     for (k, corner) in corners.iter().enumerate() {
@@ -71,7 +76,9 @@ fn panel_lines(
     requires carton { IsCarton carton.now }
     requires state { IsState MOST_JOINTS state.now }
     requires panel { panel.0 < length carton.now.panels }
-    ensures { (s : Shape) → IfOk result (λ text. ArePanelLines carton.now state.now panel.0 (slice_index_or carton.now.panels panel.0 s) (string_bytes text)) }
+    ensures { (s : Shape)
+        → IfOk result (λ text. ArePanelLines carton.now state.now panel.0
+        (slice_index_or carton.now.panels panel.0 s) (string_bytes text)) }
 {
     let turns = carton.turns(panel, carton.root());
     let swings = still_swings(turns, state);

@@ -64,7 +64,8 @@ fn in_thousandths(number: Fix) -> Thousandths
 fn spot_in(place: Space<Fix>) -> Spot
     requires size { greatest (λ (f : Fix). size_of f.lo f.hi) place ≤ 2 ^ 63 }
     requires close { greatest (λ (f : Fix). spread_of f.lo f.hi) place ≤ 2 ^ 28 }
-    ensures { (n d : ℕ) (p : Position) → HoldsPosition (λ (f : Fix) n d x v. IsBetween f.lo f.hi x v) place n d p → IsSpotOf result p }
+    ensures { (n d : ℕ) (p : Position)
+        → HoldsPosition (λ (f : Fix) n d x v. IsBetween f.lo f.hi x v) place n d p → IsSpotOf result p }
 {
     Spot {
         x: in_thousandths(place.x),
@@ -80,7 +81,8 @@ pub fn spot_of(turns: &[Turn], swings: &[Swing], point: Triple) -> Spot
     requires one_each { length swings.now ≡ length turns.now }
     requires still { All (IsSwingWithin 2) swings.now }
     requires near { IsNearPoint point }
-    ensures { (angles : List Angle) → HoldSwings swings.now 0 1 angles → IsSpotOf result (turned_through turns.now angles (laid point)) }
+    ensures { (angles : List Angle) → HoldSwings swings.now 0 1 angles
+        → IsSpotOf result (turned_through turns.now angles (laid point)) }
 {
     let start = start_of(point);
     spot_in(place_from(turns, swings, start.x, start.y))

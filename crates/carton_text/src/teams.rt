@@ -3,7 +3,9 @@ ghost use Rattle.std.specs.List.{list_any};
 ghost use Rattle.carton_base.specs.Steps.{Gives, entries_from};
 ghost use Rattle.carton_base.specs.declared.limits.TheConstants.{MOST_JOINTS, MOST_TEAMS};
 ghost use Rattle.carton_text.specs.JobRules.{members};
-ghost use Rattle.carton_text.specs.Tasks.{moves as moves_in, has_to_move as has_to_move_in, place_from, places as places_in, team_of, lone_teams as lone_teams_in, teams_of, is_among as is_among_in};
+ghost use Rattle.carton_text.specs.Tasks.{moves as moves_in, has_to_move as has_to_move_in, place_from};
+ghost use Rattle.carton_text.specs.Tasks.{places as places_in, team_of, lone_teams as lone_teams_in};
+ghost use Rattle.carton_text.specs.Tasks.{teams_of, is_among as is_among_in};
 
 use crate::course::Course;
 use crate::job::TeamLine;
@@ -77,7 +79,8 @@ fn told_teams(
     lines: &[TeamLine],
 ) -> Result<Listed<Team>, JobError>
     requires { length courses.now ≤ MOST_JOINTS }
-    ensures value { Gives JobError.Memory (λ v. v) result (entries_from (λ i. team_of courses.now) 0 lines.now) }
+    ensures value { Gives JobError.Memory (λ v. v) result
+        (entries_from (λ i. team_of courses.now) 0 lines.now) }
     ensures count { IfOk result (λ v. length v ≡ length lines.now) }
 {
     let mut found = Listed::new(alloc);
@@ -107,7 +110,8 @@ fn with_lone_teams(
     lines: &[TeamLine],
 ) -> Result<Listed<Team>, JobError>
     requires { length courses.now ≤ MOST_JOINTS }
-    ensures value { Gives JobError.Memory (λ v. v) result (Ok (teams ++ lone_teams_in (members lines.now) 0 courses.now)) }
+    ensures value { Gives JobError.Memory (λ v. v) result
+        (Ok (teams ++ lone_teams_in (members lines.now) 0 courses.now)) }
     ensures few { IfOk result (λ v. length v ≤ length teams + length courses.now) }
 {
     for (k, course) in courses.iter().enumerate() {

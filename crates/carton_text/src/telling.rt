@@ -1,7 +1,9 @@
 ghost use Rattle.std.specs.Prelude.{◌≡◌, ◌≤◌, Option, Result, Ok};
 ghost use Rattle.std.specs.List.{list_any};
 ghost use Rattle.carton_lines.specs.Lines.{Gives};
-ghost use Rattle.carton_text.specs.Jobs.{new_draft, once as once_in, set_once as set_once_in, name_each as name_each_in, add_team as add_team_in, add as add_in, told as told_in, is_same};
+ghost use Rattle.carton_text.specs.Jobs.{new_draft, once as once_in, set_once as set_once_in};
+ghost use Rattle.carton_text.specs.Jobs.{name_each as name_each_in, add_team as add_team_in, add as add_in};
+ghost use Rattle.carton_text.specs.Jobs.{told as told_in, is_same};
 
 use crate::draft::Draft;
 use crate::grid::Grid;

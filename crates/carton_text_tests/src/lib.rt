@@ -2,16 +2,10 @@
 #![tactic(auto)]
 
 #[cfg(test)]
-mod cartons;
-#[cfg(test)]
-mod job_faults;
-#[cfg(test)]
-mod job_values;
-#[cfg(test)]
-mod plan_faults;
-#[cfg(test)]
-mod plan_values;
+mod faults;
 #[cfg(test)]
 mod poses;
 #[cfg(test)]
 mod tasks;
+#[cfg(test)]
+mod values;

@@ -1,13 +1,14 @@
 ghost use Rattle.std.specs.Prelude.{◌≤◌, length};
 ghost use Rattle.carton_base.specs.declared.limits.TheConstants.{MOST_JOINTS};
 
-use carton_base::{EdgeId, Listed, State};
-use carton_cases::dielines::{BARE_TRAY, FOLDED_TRAY};
-use carton_cases::files_of;
+use carton_base::{EdgeId, Listed, PanelId, State};
+use carton_cases::dielines::{BARE_TRAY, FOLDED_TRAY, LOCKED_TRAY};
+use carton_cases::{files_of, wrongly_told};
 use carton_text::JobError::{
     AngleNotExact, EmptyTeam, LockedEdge, NoAngles, NotAJoint, TooManyTeams,
 };
-use carton_text::{JobError, Task, Team, fitted};
+use carton_text::{JobError, Task, Team, fitted, job_for};
+use carton_tree::tree;
 use std::alloc::{AllocError, Global};
 
 const FOUR: [EdgeId; 4] = [EdgeId(0), EdgeId(1), EdgeId(2), EdgeId(3)];
@@ -45,46 +46,59 @@ fn answer(
     Some(fitted(alloc, creases, locked, &files.dieline, &files.job))
 }
 
-// Jobs that don't fit the tray without letters.
-const REFUSED: [(&str, JobError); 12] = [
-    ("carton job 1\nstart 4 0\nend\n", NotAJoint(EdgeId(4))),
-    ("carton job 1\ntarget 4 1\nend\n", NotAJoint(EdgeId(4))),
-    ("carton job 1\nteam 4\nend\n", NotAJoint(EdgeId(4))),
-    ("carton job 1\nstart 2047 0\nend\n", NotAJoint(EdgeId(2047))),
+// Jobs that don't fit the tray without letters, by what is told of them.
+const REFUSED: [(JobError, &[&str]); 8] = [
     (
-        "carton job 1\nteam 5\ntarget 6 1\nstart 0 1\nstart 7 1\nstart 2 1\nend\n",
+        NotAJoint(EdgeId(4)),
+        &[
+            "carton job 1\nstart 4 0\nend\n",
+            "carton job 1\ntarget 4 1\nend\n",
+            "carton job 1\nteam 4\nend\n",
+        ],
+    ),
+    (
+        NotAJoint(EdgeId(2047)),
+        &["carton job 1\nstart 2047 0\nend\n"],
+    ),
+    (
         NotAJoint(EdgeId(7)),
+        &["carton job 1\nteam 5\ntarget 6 1\nstart 0 1\nstart 7 1\nstart 2 1\nend\n"],
     ),
     (
-        "carton job 1\nteam 5\ntarget 2 1\nend\n",
         LockedEdge(EdgeId(2)),
+        &[
+            "carton job 1\nteam 5\ntarget 2 1\nend\n",
+            "carton job 1\ntargets fold\nteam 2\nend\n",
+        ],
     ),
     (
-        "carton job 1\ntargets fold\nteam 2\nend\n",
-        LockedEdge(EdgeId(2)),
-    ),
-    ("carton job 1\ntargets fold\nteam 0\nend\n", NoAngles),
-    (
-        "carton job 1\ntarget 0 1\ntarget 1 1\ntarget 3 1\ntargets fold\nend\n",
         NoAngles,
+        &[
+            "carton job 1\ntargets fold\nteam 0\nend\n",
+            "carton job 1\ntarget 0 1\ntarget 1 1\ntarget 3 1\ntargets fold\nend\n",
+        ],
     ),
-    ("carton job 1\nteam 0\nend\n", EmptyTeam(2)),
+    (EmptyTeam(2), &["carton job 1\nteam 0\nend\n"]),
     (
-        "carton job 1\ntarget 0 1\n#\nteam 0 1\nteam 3\nend\n",
         EmptyTeam(5),
+        &["carton job 1\ntarget 0 1\n#\nteam 0 1\nteam 3\nend\n"],
     ),
     (
-        "carton job 1\nstart 0 -3\ntarget 0 -3\nteam 0\nend\n",
         EmptyTeam(4),
+        &["carton job 1\nstart 0 -3\ntarget 0 -3\nteam 0\nend\n"],
     ),
 ];
 
+fn refusal(alloc: Global, job: &str) -> Option<JobError> {
+    match answer(alloc, BARE_TRAY, job, &THREE, &LOCKED) {
+        Some(Err(refusal)) => Some(refusal),
+        _ => None,
+    }
+}
+
 #[test]
 fn jobs_that_do_not_fit(rt: HostRuntime) {
-    for (job, refusal) in &REFUSED {
-        let refused = answer(rt.alloc(), BARE_TRAY, job, &THREE, &LOCKED);
-        assert!(rt; refused == Some(Err(*refusal)), "at {job}");
-    }
+    assert_eq!(rt; wrongly_told(rt.alloc(), refusal, &REFUSED), None);
 }
 
 #[test]
@@ -148,5 +162,37 @@ fn a_task(rt: HostRuntime) -> Result<(), AllocError> {
         stride: 3,
     };
     assert!(rt; answer(alloc, FOLDED_TRAY, job, &FOUR, &[]) == Some(Ok(wanted)));
+    Ok(())
+}
+
+// What is told of a job for the tray with a locked crease.
+fn answer_of_carton(alloc: Global, job: &str) -> Option<Result<Task, JobError>> {
+    let files = files_of(alloc, LOCKED_TRAY.as_bytes(), job.as_bytes())?;
+    let Ok(carton) = tree(alloc, &files.dieline, 4, PanelId(0)) else {
+        return None;
+    };
+    Some(job_for(alloc, &carton, &files.dieline, &files.job))
+}
+
+#[test]
+fn tasks_of_a_carton(rt: HostRuntime) -> Result<(), AllocError> {
+    let alloc = rt.alloc();
+    let folds = "carton job 2 16 2\nstart 0 -3\ntarget 0 16\ntarget 3 8\nteam 3\nend\n";
+    let Some(Ok(task)) = answer_of_carton(alloc, folds) else {
+        panic!(rt; "a task");
+    };
+    assert!(rt; task.creases.as_slice() == [EdgeId(0), EdgeId(1), EdgeId(3)].as_slice());
+    assert!(rt; task.start.grid == 16 && task.stride == 2);
+    assert!(rt; task.start.stops[..4] == [-3, 0, 0, 0]);
+    assert!(rt; task.target.stops[..4] == [16, 0, 8, 0]);
+    let teams = task.teams.as_slice();
+    assert!(rt; teams.len() == 2);
+    assert!(rt; teams[0].places.as_slice() == [2].as_slice());
+    assert!(rt; teams[1].places.as_slice() == [0].as_slice());
+
+    let locked = answer_of_carton(alloc, "carton job 1\ntarget 2 8\nend\n");
+    assert!(rt; matches!(locked, Some(Err(JobError::LockedEdge(EdgeId(2))))));
+    let none = answer_of_carton(alloc, "carton job 1\ntarget 4 8\nend\n");
+    assert!(rt; matches!(none, Some(Err(JobError::NotAJoint(EdgeId(4))))));
     Ok(())
 }

@@ -1,12 +1,15 @@
 -- How something was said, by its status.
 use Rattle.std.proofs.Common.{◌≡◌, ◌≢◌, ◌⊎◌, inl, inr, refl, ap, ◌∙◌}
-use Rattle.carton_setup.specs.declared.told.Ending.TheVariants.{Done as ToldDone, Refused as ToldRefused, OutOfTurns as ToldTurns}
+use Rattle.carton_setup.specs.declared.told.Ending.TheVariants.{Done as ToldDone, Refused as ToldRefused}
+use Rattle.carton_setup.specs.declared.told.Ending.TheVariants.{OutOfTurns as ToldTurns}
 use Rattle.carton_tool.specs.Headline.{IsToldOrFault}
 use Rattle.carton_tool.specs.Saying.{status_of}
 use Rattle.carton_tool.specs.declared.said.Ended.{Ended}
 use Rattle.carton_tool.specs.declared.said.Ended.TheVariants.{BadWords, BadInput, Told}
 use Rattle.carton_tool.specs.declared.status.Status.{Status}
-use Rattle.carton_tool.specs.declared.status.Status.TheVariants.{Done, Refused, BadInput as BadFiles, BadWords as NoWords, ReadFault, WriteFault, OutOfTurns, NoMemory}
+use Rattle.carton_tool.specs.declared.status.Status.TheVariants.{Done, Refused, BadInput as BadFiles}
+use Rattle.carton_tool.specs.declared.status.Status.TheVariants.{BadWords as NoWords, ReadFault, WriteFault}
+use Rattle.carton_tool.specs.declared.status.Status.TheVariants.{OutOfTurns, NoMemory}
 
 -- nothing is said after a fault of reading
 pub no_read_fault : (e : Ended) → status_of e ≡ ReadFault → ⊥
@@ -57,7 +60,8 @@ done_or_fault OutOfTurns h = let e : OutOfTurns ≡ Done = h (λ e. absurd (cc))
 done_or_fault NoMemory h = inr (inl refl)
 
 -- a status that is that of bad words but for a fault of writing
-pub bad_or_fault : (status : Status) (e : Ended) → (status ≢ WriteFault → status ≡ status_of e) → e ≡ BadWords → (status ≡ NoWords) ⊎ (status ≡ WriteFault) ⊎ (status ≡ NoMemory)
+pub bad_or_fault : (status : Status) (e : Ended) → (status ≢ WriteFault → status ≡ status_of e) → e ≡ BadWords
+    → (status ≡ NoWords) ⊎ (status ≡ WriteFault) ⊎ (status ≡ NoMemory)
 bad_or_fault WriteFault e h is = inr (inl refl)
 bad_or_fault Done e h is = inl (h (λ s. absurd (cc)) ∙ ap status_of is)
 bad_or_fault Refused e h is = inl (h (λ s. absurd (cc)) ∙ ap status_of is)

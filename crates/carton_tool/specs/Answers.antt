@@ -12,7 +12,8 @@ use Rattle.carton_setup.specs.Outcomes.{Outcomes}
 use Rattle.carton_setup.specs.declared.told.Told.{Told}
 use Rattle.carton_words.specs.Commands.{Command, margin_of, end_of, count_of}
 use Rattle.carton_words.specs.declared.table.Verb.{Verb}
-use Rattle.carton_words.specs.declared.table.Verb.TheVariants.{Flat, Pose, Plan, Check, Clearance, Make, Fixture, Verify}
+use Rattle.carton_words.specs.declared.table.Verb.TheVariants.{Flat, Pose, Plan, Check, Clearance, Make}
+use Rattle.carton_words.specs.declared.table.Verb.TheVariants.{Fixture, Verify}
 
 -- what a command of this verb may tell, where none of its files is too long
 abbrev pub tells_by : Verb → Command → List (List ℕ) → Outcomes Told
@@ -21,7 +22,7 @@ tells_by Pose c = tells_pose (end_of c)
 tells_by Plan c = tells_plan
 tells_by Check c = tells_check
 tells_by Clearance c = tells_clearance
-tells_by Make c = λ files. tells_make (count_of c)
+tells_by Make c = tells_make (count_of c)
 tells_by Fixture c = tells_fixture
 tells_by Verify c = tells_verify
 

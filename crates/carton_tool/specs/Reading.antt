@@ -7,7 +7,8 @@ use Rattle.carton_tool.specs.declared.files.Unread.{Unread}
 use Rattle.carton_tool.specs.declared.files.Unread.TheVariants.{TooLong, Failed, NoMemory}
 
 -- these may be all the files: they have the told bytes, and of these the first that is too long has this kind
-pub record AreRead (holds : List ℕ → Option (List ℕ)) (had : ℕ) (named : List Named) (first : Option FileKind) (files : List (List ℕ)) : Type 0 where
+pub record AreRead (holds : List ℕ → Option (List ℕ)) (had : ℕ) (named : List Named) (first : Option FileKind)
+    (files : List (List ℕ)) : Type 0 where
   pub told : AreTold holds named files
   pub long : IsAsHad had named files
   pub first_is : first_long named files ≡ first

@@ -34,7 +34,8 @@ pub fn read_all<S: Shelf>(
     wanted: &[Wanted<'_>],
     shelf: &mut S,
 ) -> Result<Vec<Listed<u8>>, Unread>
-    ensures all { IfOk result (λ files. AreAllRead (S.holds shelf.old) (S.had shelf.new) (map named wanted.now) files.items) }
+    ensures all { IfOk result (λ files. AreAllRead (S.holds shelf.old) (S.had shelf.new)
+        (map named wanted.now) files.items) }
     ensures unread { IfErr result (IsUnread (S.holds shelf.old) (S.had shelf.new) (map named wanted.now)) }
 
     // A fault counts one, at a file that was to be read.

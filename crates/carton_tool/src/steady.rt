@@ -16,11 +16,13 @@ pub fn run_steadily(
     shelf: &mut SteadyShelf,
     sink: &mut SteadySink,
 ) -> Status
-    ensures stays { (name : List ℕ) → unwrap_or (content_of shelf.new.files name) [] ≡ unwrap_or (content_of shelf.old.files name) [] }
+    ensures stays { (name : List ℕ) → unwrap_or (content_of shelf.new.files name) []
+        ≡ unwrap_or (content_of shelf.old.files name) [] }
     ensures reads { result ≢ Status.ReadFault }
     ensures writes { result ≢ Status.WriteFault }
     ensures answered { result ≢ Status.NoMemory
-        → IsAnswered (λ name. Some (unwrap_or (content_of shelf.old.files name) [])) shelf.new.had (texts words.now) result (λ text. ⊤) }
+        → IsAnswered (λ name. Some (unwrap_or (content_of shelf.old.files name) [])) shelf.new.had (texts
+        words.now) result (λ text. ⊤) }
 {
     run(alloc, words, shelf, sink)
 }

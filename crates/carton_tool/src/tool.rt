@@ -4,8 +4,10 @@ ghost use Rattle.carton_io.specs.Told.{raised, Rose, GrewInPart};
 ghost use Rattle.carton_words.specs.Asked.{asked};
 ghost use Rattle.carton_words.specs.Commands.{Command, IsCommand, IsNoCommand};
 ghost use Rattle.carton_words.specs.Words.{texts};
-ghost use Rattle.carton_tool.specs.Headline.{IsSafe, HasFewestMoves, TellsPlanWith, IsFoundInReach, IsOfSound, TellsMade};
-ghost use Rattle.carton_tool.specs.Saying.{status_of, IsSaidOf, IsSaid, AreFiles, IsAnswered, IsDetermined, IsNamed};
+ghost use Rattle.carton_tool.specs.Headline.{IsSafe, HasFewestMoves, TellsPlanWith, IsFoundInReach};
+ghost use Rattle.carton_tool.specs.Headline.{IsOfSound, TellsMade};
+ghost use Rattle.carton_tool.specs.Saying.{status_of, IsSaidOf, IsSaid, AreFiles, IsAnswered, IsDetermined};
+ghost use Rattle.carton_tool.specs.Saying.{IsNamed};
 
 use crate::files::{Unread, read_all};
 use crate::halt::Halt;
@@ -33,13 +35,16 @@ fn said_of(alloc: Global, command: &Asked<'_>, files: &[Listed<u8>]) -> Result<S
 // What is said to any words.
 fn said_to<S: Shelf>(alloc: Global, words: &[String], shelf: &mut S) -> Result<Said, Halt>
     ensures said { IfOk result (λ said. (files : List (List ℕ))
-        × AreFiles (S.holds shelf.old) (S.had shelf.new) (texts words.now) files × IsSaid (texts words.now) files said) }
+        × AreFiles (S.holds shelf.old) (S.had shelf.new) (texts words.now) files
+        × IsSaid (texts words.now) files said) }
     ensures fault { IsErrOf result Halt.ReadFault → Rose (S.faults shelf.old) (S.faults shelf.new) }
     ensures once { IsErrOf result Halt.ReadFault → S.faults shelf.new ≡ raised (S.faults shelf.old) }
     ensures command { IsErrOf result Halt.ReadFault → (c : Command) × IsCommand (texts words.now) c }
-    ensures named { IsErrOf result Halt.ReadFault → IfSome (S.last_failed shelf.new) (IsNamed (S.holds shelf.old) (texts words.now)) }
+    ensures named { IsErrOf result Halt.ReadFault
+        → IfSome (S.last_failed shelf.new) (IsNamed (S.holds shelf.old) (texts words.now)) }
     ensures steady { (IsErrOf result Halt.ReadFault → ⊥) → S.faults shelf.new ≡ S.faults shelf.old }
-    ensures unnamed { (IsErrOf result Halt.ReadFault → ⊥) → S.last_failed shelf.new ≡ S.last_failed shelf.old }
+    ensures unnamed { (IsErrOf result Halt.ReadFault → ⊥) → S.last_failed shelf.new
+        ≡ S.last_failed shelf.old }
     ensures stays { (name : List ℕ) → S.holds shelf.new name ≡ S.holds shelf.old name }
     ensures later { S.faults shelf.old ≤ S.faults shelf.new }
 {
@@ -64,8 +69,10 @@ fn said_to<S: Shelf>(alloc: Global, words: &[String], shelf: &mut S) -> Result<S
 // Puts what is said, by one call.
 fn say<K: Sink>(said: &Said, sink: &mut K) -> Status
     ensures said { result ≢ Status.WriteFault
-        → (result ≡ status_of said.now.ended) × Appends (K.written sink.old) (K.written sink.new) said.now.text }
-    ensures part { result ≡ Status.WriteFault → GrewInPart (K.written sink.old) (K.written sink.new) said.now.text }
+        → (result ≡ status_of said.now.ended)
+        × Appends (K.written sink.old) (K.written sink.new) said.now.text }
+    ensures part { result ≡ Status.WriteFault
+        → GrewInPart (K.written sink.old) (K.written sink.new) said.now.text }
     ensures cause { result ≡ Status.WriteFault → Rose (K.faults sink.old) (K.faults sink.new) }
     ensures steady { result ≢ Status.WriteFault → K.faults sink.new ≡ K.faults sink.old }
     ensures later { K.faults sink.old ≤ K.faults sink.new }
@@ -93,29 +100,38 @@ pub fn run<S: Shelf, K: Sink>(
     // A fault of reading comes only from the shelf, once, at a file that the words name.
     ensures read_fault { result ≡ Status.ReadFault → Rose (S.faults shelf.old) (S.faults shelf.new) }
     ensures read_once { result ≡ Status.ReadFault → S.faults shelf.new ≡ raised (S.faults shelf.old) }
-    ensures read_name { result ≡ Status.ReadFault → IfSome (S.last_failed shelf.new) (IsNamed (S.holds shelf.old) (texts words.now)) }
+    ensures read_name { result ≡ Status.ReadFault
+        → IfSome (S.last_failed shelf.new) (IsNamed (S.holds shelf.old) (texts words.now)) }
 
     // A fault of writing comes only from the sink, after a front of an allowed text.
     ensures write_fault { result ≡ Status.WriteFault → Rose (K.faults sink.old) (K.faults sink.new) }
     ensures wrote_part { result ≡ Status.WriteFault → (status : Status)
-        × IsAnswered (S.holds shelf.old) (S.had shelf.new) (texts words.now) status (GrewInPart (K.written sink.old) (K.written sink.new)) }
+        × IsAnswered (S.holds shelf.old) (S.had shelf.new) (texts words.now) status (GrewInPart
+        (K.written sink.old) (K.written sink.new)) }
 
     // Without an answer nothing is written, and else exactly one allowed text.
-    ensures silent { (result ≡ Status.NoMemory) ⊎ (result ≡ Status.ReadFault) → K.written sink.new ≡ K.written sink.old }
+    ensures silent { (result ≡ Status.NoMemory) ⊎ (result ≡ Status.ReadFault)
+        → K.written sink.new ≡ K.written sink.old }
     ensures answered { result ≢ Status.NoMemory → result ≢ Status.ReadFault → result ≢ Status.WriteFault
-        → IsAnswered (S.holds shelf.old) (S.had shelf.new) (texts words.now) result (Appends (K.written sink.old) (K.written sink.new)) }
+        → IsAnswered (S.holds shelf.old) (S.had shelf.new) (texts words.now) result (Appends
+        (K.written sink.old) (K.written sink.new)) }
 
     // A plan that is told is safe, and no path that keeps clear by the slack has fewer moves; where
     // there is such a path within the budget of turns, a plan is told.
-    ensures safe { result ≡ Status.Done → TellsPlanWith (S.holds shelf.old) (texts words.now) (Appends (K.written sink.old) (K.written sink.new)) IsSafe }
-    ensures least { result ≡ Status.Done → TellsPlanWith (S.holds shelf.old) (texts words.now) (Appends (K.written sink.old) (K.written sink.new)) HasFewestMoves }
+    ensures safe { result ≡ Status.Done
+        → TellsPlanWith (S.holds shelf.old) (texts words.now) (Appends (K.written sink.old)
+        (K.written sink.new)) IsSafe }
+    ensures least { result ≡ Status.Done
+        → TellsPlanWith (S.holds shelf.old) (texts words.now) (Appends (K.written sink.old)
+        (K.written sink.new)) HasFewestMoves }
     ensures found { IsFoundInReach (S.holds shelf.old) (texts words.now) result }
 
     // Of a check and of a report, done is told only of a sound plan.
     ensures holds_sound { result ≡ Status.Done → IsOfSound (S.holds shelf.old) (texts words.now) }
 
     // Of made dielines and jobs exactly what may come of planning for them is told.
-    ensures made_sound { result ≡ Status.Done → TellsMade (texts words.now) (Appends (K.written sink.old) (K.written sink.new)) }
+    ensures made_sound { result ≡ Status.Done
+        → TellsMade (texts words.now) (Appends (K.written sink.old) (K.written sink.new)) }
 
     // The words and the bytes of the files that they name determine the text and the status.
     ensures determined { IsDetermined (texts words.now) }

@@ -5,9 +5,9 @@ ghost use Rattle.carton_words.specs.Asked.{asked};
 ghost use Rattle.carton_words.specs.Commands.{IsCommand};
 
 use carton_base::Listed;
-use carton_fixture_commands::{tell_fixture, tell_verify};
+use carton_fixture_commands::{FixtureCommand, VerifyCommand};
 use carton_plan_commands::{
-    tell_check, tell_clearance, tell_flat, tell_make, tell_plan, tell_pose,
+    CheckCommand, ClearanceCommand, FlatCommand, MakeCommand, PlanCommand, PoseCommand,
 };
 use carton_setup::{Refusal, Told};
 use carton_words::{Asked, Verb};
@@ -19,13 +19,19 @@ pub fn tell(alloc: Global, command: &Asked<'_>, files: &[Listed<u8>]) -> Result<
     ensures { IsOutcome (tells (asked command.now) files.now) result }
 {
     match command.verb {
-        Verb::Flat => tell_flat(alloc, files, command.margin()),
-        Verb::Pose => tell_pose(alloc, files, command.end()),
-        Verb::Plan => tell_plan(alloc, files),
-        Verb::Check => tell_check(alloc, files),
-        Verb::Clearance => tell_clearance(alloc, files),
-        Verb::Make => tell_make(alloc, command.count()),
-        Verb::Fixture => tell_fixture(alloc, files),
-        Verb::Verify => tell_verify(alloc, files),
+        Verb::Flat => {
+            let margin = command.margin();
+            carton_setup::tell(alloc, &FlatCommand { margin }, files)
+        }
+        Verb::Pose => carton_setup::tell(alloc, &PoseCommand { end: command.end() }, files),
+        Verb::Plan => carton_setup::tell(alloc, &PlanCommand, files),
+        Verb::Check => carton_setup::tell(alloc, &CheckCommand, files),
+        Verb::Clearance => carton_setup::tell(alloc, &ClearanceCommand, files),
+        Verb::Make => {
+            let count = command.count();
+            carton_setup::tell(alloc, &MakeCommand { count }, files)
+        }
+        Verb::Fixture => carton_setup::tell(alloc, &FixtureCommand, files),
+        Verb::Verify => carton_setup::tell(alloc, &VerifyCommand, files),
     }
 }

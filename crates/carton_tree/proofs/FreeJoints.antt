@@ -1,6 +1,7 @@
 -- The free joints of a dieline are one list, each has one place there, and a carton has fewer of them than
 -- panels.
-use Rattle.std.proofs.Common.{◌≡◌, ◌≢◌, ℕ, zero, suc, ◌<◌, ◌≤◌, inl, inr, List, length, get_or, map, arith, sym, ◌∙◌, ap, subst, refl, true, eqb, eq-eqb, Option, Some, None, AllPairs}
+use Rattle.std.proofs.Common.{◌≡◌, ◌≢◌, ℕ, zero, suc, ◌<◌, ◌≤◌, inl, inr, List, length, get_or, map, arith}
+use Rattle.std.proofs.Common.{sym, ◌∙◌, ap, subst, refl, true, eqb, eq-eqb, Option, Some, None, AllPairs}
 use Rattle.std.specs.Prelude.{IsSomeAnd}
 use Rattle.std.specs.List.{list_any}
 use Rattle.std.proofs.lemmas.Bool.{cases_lt}

@@ -1,13 +1,18 @@
 -- A dieline, a margin and a root determine by which rule the dieline is refused.
-use Rattle.std.proofs.Common.{◌≡◌, ◌≢◌, ℕ, ◌<◌, ◌≤◌, ◌⊎◌, inl, inr, length, arith, sym, ◌∙◌, ap, refl, Ok, Err, Option, Some, None}
+use Rattle.std.proofs.Common.{◌≡◌, ◌≢◌, ℕ, ◌<◌, ◌≤◌, ◌⊎◌, inl, inr, length, arith, sym, ◌∙◌, ap, refl, Ok}
+use Rattle.std.proofs.Common.{Err, Option, Some, None}
 use Rattle.std.proofs.lemmas.Bool.{cases_lt}
 use Rattle.carton_base.specs.declared.dieline.RawDieline.{RawDieline}
 use Rattle.carton_base.specs.declared.ids.PanelId.{PanelId}
 use Rattle.carton_panels.specs.declared.error.PanelError.{PanelError}
 use Rattle.carton_tree.specs.declared.error.TreeError.{TreeError}
-use Rattle.carton_tree.specs.declared.error.TreeError.TheVariants.{Panel, SideNoEdge, ThreeFaces, SameSide, Slanted, Loop, NoRoot, Apart, TooDeep, Memory}
-use Rattle.carton_tree.specs.Answers.{IsFirstRefused, IsPanelsAnswer, IsEdgesAnswer, IsHungAnswer, IsTreeAnswer}
-use Rattle.carton_tree.specs.Rules.{IsLeast, Never, IsBare, IsSooner, IsThreefold, IsOneWay, IsSlantedJoint, IsLoop, IsApart, IsDeep, KeepsPanels, KeepsSides, KeepsAxes, KeepsOpen}
+use Rattle.carton_tree.specs.declared.error.TreeError.TheVariants.{Panel, SideNoEdge, ThreeFaces, SameSide}
+use Rattle.carton_tree.specs.declared.error.TreeError.TheVariants.{Slanted, Loop, NoRoot, Apart, TooDeep}
+use Rattle.carton_tree.specs.declared.error.TreeError.TheVariants.{Memory}
+use Rattle.carton_tree.specs.Answers.{IsFirstRefused, IsPanelsAnswer, IsEdgesAnswer, IsHungAnswer}
+use Rattle.carton_tree.specs.Answers.{IsTreeAnswer}
+use Rattle.carton_tree.specs.Rules.{IsLeast, Never, IsBare, IsSooner, IsThreefold, IsOneWay, IsSlantedJoint}
+use Rattle.carton_tree.specs.Rules.{IsLoop, IsApart, IsDeep, KeepsPanels, KeepsSides, KeepsAxes, KeepsOpen}
 use Rattle.carton_tree.specs.Trees.{Tree}
 use Rattle.carton_tree.proofs.RefusedFaces.{same_panel, none_refused, one_first_refused}
 

@@ -1,5 +1,6 @@
 -- Ordered lists with the same members are one list.
-use Rattle.std.proofs.Common.{◌≡◌, zero, suc, ◌⊎◌, inl, inr, List, [], ◌∷◌, arith, sym, subst, refl, ap, ◌∙◌, AllPairs, Contains}
+use Rattle.std.proofs.Common.{◌≡◌, zero, suc, ◌⊎◌, inl, inr, List, [], ◌∷◌, arith, sym, subst, refl, ap, ◌∙◌}
+use Rattle.std.proofs.Common.{AllPairs, Contains}
 
 -- a member of x, xs is x or one of xs
 member_cases : {X : Type 0} → (x : X) (xs : List X) (p : X) → Contains (x ∷ xs) p → (x ≡ p) ⊎ Contains xs p

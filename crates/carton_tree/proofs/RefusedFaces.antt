@@ -8,7 +8,8 @@ use Rattle.carton_panels.specs.Panels.{origin}
 use Rattle.carton_panels.specs.Answers.{IsPanelAnswer}
 use Rattle.carton_panels.specs.DielinePanels.{panel_places, IsPanel, ArePanels}
 use Rattle.carton_panels.specs.declared.error.PanelError.{PanelError}
-use Rattle.carton_panels.specs.declared.error.PanelError.TheVariants.{RepeatedVertex, NotConvex, TooThin, Memory}
+use Rattle.carton_panels.specs.declared.error.PanelError.TheVariants.{RepeatedVertex, NotConvex, TooThin}
+use Rattle.carton_panels.specs.declared.error.PanelError.TheVariants.{Memory}
 use Rattle.carton_tree.specs.Answers.{IsFirstRefused}
 
 pub same_panel : (a b : PanelId) → a.0 ≡ b.0 → a ≡ b

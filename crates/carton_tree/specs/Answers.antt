@@ -7,11 +7,15 @@ use Rattle.carton_panels.specs.declared.error.PanelError.TheVariants.{Memory as 
 use Rattle.carton_panels.specs.Answers.{IsPanelAnswer}
 use Rattle.carton_panels.specs.DielinePanels.{panel_places, ArePanels, AreShapes}
 use Rattle.carton_tree.specs.declared.error.TreeError.{TreeError}
-use Rattle.carton_tree.specs.declared.error.TreeError.TheVariants.{Panel, SideNoEdge, ThreeFaces, SameSide, Slanted, Loop, NoRoot, Apart, TooDeep, Memory}
+use Rattle.carton_tree.specs.declared.error.TreeError.TheVariants.{Panel, SideNoEdge, ThreeFaces, SameSide}
+use Rattle.carton_tree.specs.declared.error.TreeError.TheVariants.{Slanted, Loop, NoRoot, Apart, TooDeep}
+use Rattle.carton_tree.specs.declared.error.TreeError.TheVariants.{Memory}
 use Rattle.carton_tree.specs.declared.joint.Joint.{Joint}
 use Rattle.carton_tree.specs.Cartons.{IsCarton}
 use Rattle.carton_tree.specs.Joints.{IsJoint, IsJointOf, IsTurnOf, AreCreases}
-use Rattle.carton_tree.specs.Rules.{IsLeast, IsBare, IsSooner, IsThreefold, IsOneWay, IsSlantedJoint, IsLoop, IsApart, IsDeep, KeepsPanels, KeepsSides, KeepsEdges, KeepsWays, KeepsAxes, KeepsOpen, KeepsRoot, KeepsWhole, KeepsShallow}
+use Rattle.carton_tree.specs.Rules.{IsLeast, IsBare, IsSooner, IsThreefold, IsOneWay, IsSlantedJoint, IsLoop}
+use Rattle.carton_tree.specs.Rules.{IsApart, IsDeep, KeepsPanels, KeepsSides, KeepsEdges, KeepsWays}
+use Rattle.carton_tree.specs.Rules.{KeepsAxes, KeepsOpen, KeepsRoot, KeepsWhole, KeepsShallow}
 use Rattle.carton_tree.specs.Trees.{Tree, joint_of, Hangs}
 
 -- panel p hangs by this joint: its edge joins p to the parent, and turns p
@@ -19,7 +23,8 @@ pub record IsHungBy (d : RawDieline) (t : Tree) (p : ℕ) (j : Joint) : Type 0 w
   pub joins : IsJointOf d j.edge.0 p j.parent.0
   pub turn : IsTurnOf d t.creases j.edge.0 p j.turn
 
--- the tree of the dieline's panels at this margin, from the start as root: all joints of the dieline, and no others, hang its panels
+-- the tree of the dieline's panels at this margin, from the start as root: all joints of the dieline, and no
+-- others, hang its panels
 pub record IsTreeOf (m : ℕ) (d : RawDieline) (start : ℕ) (t : Tree) : Type 0 where
   pub shapes : AreShapes m d t.panels
   pub panels : length t.panels ≡ length d.faces
@@ -60,4 +65,5 @@ IsHungAnswer d root e = ⊥
 -- the answer for a dieline, a margin and a root: the tree where all rules are kept, else the first that isn't
 abbrev pub IsTreeAnswer : ℕ → RawDieline → ℕ → Result Tree TreeError → Type 0
 IsTreeAnswer m d root (Ok t) = KeepsPanels m d × KeepsAxes d × KeepsShallow d root × IsTreeOf m d root t
-IsTreeAnswer m d root (Err e) = IsPanelsAnswer m d e ⊎ (KeepsPanels m d × IsEdgesAnswer d e) ⊎ (KeepsPanels m d × KeepsAxes d × IsHungAnswer d root e)
+IsTreeAnswer m d root (Err e) = IsPanelsAnswer m d e ⊎ (KeepsPanels m d × IsEdgesAnswer d e)
+    ⊎ (KeepsPanels m d × KeepsAxes d × IsHungAnswer d root e)

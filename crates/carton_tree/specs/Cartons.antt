@@ -1,5 +1,6 @@
 -- What holds of every carton, and of the coordinates that it keeps.
-use Rattle.std.specs.Prelude.{◌≡◌, ◌≢◌, ℕ, ◌<◌, ◌≤◌, List, length, None, IsSomeAnd, Some, slice_index_or, unsigned_abs}
+use Rattle.std.specs.Prelude.{◌≡◌, ◌≢◌, ℕ, ◌<◌, ◌≤◌, List, length, None, IsSomeAnd, Some, slice_index_or}
+use Rattle.std.specs.Prelude.{unsigned_abs}
 use Rattle.std.specs.List.{AllZip, last_or}
 use Rattle.smallvec.specs.SmallVec.{SmallVec}
 use Rattle.carton_base.specs.Fractions.{IsRounded}
@@ -25,7 +26,8 @@ pub record IsCarton (t : Tree) : Type 0 where
   pub joints : length t.joints ≡ length t.panels
   pub root : t.root < length t.panels
   pub top : joint_of t.joints t.root ≡ None
-  pub others : (p : ℕ) → p < length t.panels → p ≢ t.root → IsSomeAnd (joint_of t.joints p) (IsJointIn (length t.panels))
+  pub others : (p : ℕ) → p < length t.panels → p ≢ t.root
+      → IsSomeAnd (joint_of t.joints p) (IsJointIn (length t.panels))
   pub ends : (p : ℕ) → p < length t.panels → last_or None (path t.joints p) ≡ Some (record { 0 = t.root })
 
 -- the bounds of both coordinates of the flat point
@@ -42,10 +44,12 @@ abbrev pub panels_of : SmallVec PanelId → List PanelId
 panels_of path = path.items
 
 -- what a carton keeps of its first n panels: where the shrunk corners stand, the paths, and the turns on them
-pub record AreKept (t : Tree) (n : ℕ) (starts : List (List Start)) (paths : List (SmallVec PanelId)) (turns : List (List Turn)) : Type 0 where
+pub record AreKept (t : Tree) (n : ℕ) (starts : List (List Start)) (paths : List (SmallVec PanelId))
+    (turns : List (List Turn)) : Type 0 where
   pub starts_of : length starts ≡ n
   pub paths_of : length paths ≡ n
   pub turns_of : length turns ≡ n
-  pub start : (p : ℕ) (s : Shape) (d : List Start) → p < n → AreStarts (slice_index_or t.panels p s).shrunk (slice_index_or starts p d)
+  pub start : (p : ℕ) (s : Shape) (d : List Start) → p < n
+      → AreStarts (slice_index_or t.panels p s).shrunk (slice_index_or starts p d)
   pub path : (p : ℕ) (d : SmallVec PanelId) → p < n → panels_of (slice_index_or paths p d) ≡ path t.joints p
   pub turn : (p : ℕ) (d : List Turn) → p < n → slice_index_or turns p d ≡ turns_by LONGEST_PATH t.joints p

@@ -4,7 +4,8 @@ use Rattle.carton_base.specs.declared.dieline.RawDieline.{RawDieline}
 use Rattle.carton_base.specs.declared.limits.TheConstants.{LONGEST_PATH}
 use Rattle.carton_tree.specs.Joints.{IsJointOf}
 
--- n joints, each of a number below k, lead from panel f to panel g, where Joins j f g says that joint j joins two panels
+-- n joints, each of a number below k, lead from panel f to panel g, where Joins j f g says that joint j joins
+-- two panels
 abbrev pub IsChain : (ℕ → ℕ → ℕ → Type 0) → ℕ → ℕ → ℕ → ℕ → Type 0
 IsChain Joins k zero f g = f ≡ g
 IsChain Joins k (suc n) f g = (j h : ℕ) × (j < k) × Joins j f h × IsChain Joins k n h g

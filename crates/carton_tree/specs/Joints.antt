@@ -1,5 +1,8 @@
--- The joints of a dieline: which edges join two panels, which of these are free, and how each turns its child.
-use Rattle.std.specs.Prelude.{◌≡◌, ◌↔◌, ℕ, ◌<◌, List, length, All, AllPairs, Any, Contains, IsTrue, Bool, if◌then◌else◌, Option, None, Some, slice_get, slice_index_or, ℤ, pos, neg_ℤ, ◌<ℤ◌}
+-- The joints of a dieline: which edges join two panels, which of these are free, and how each turns its
+-- child.
+use Rattle.std.specs.Prelude.{◌≡◌, ◌↔◌, ℕ, ◌<◌, List, length, All, AllPairs, Any, Contains, IsTrue, Bool}
+use Rattle.std.specs.Prelude.{if◌then◌else◌, Option, None, Some, slice_get, slice_index_or, ℤ, pos, neg_ℤ}
+use Rattle.std.specs.Prelude.{◌<ℤ◌}
 use Rattle.std.specs.List.{HoldsAt}
 use Rattle.carton_base.specs.declared.dieline.RawDieline.{RawDieline}
 use Rattle.carton_base.specs.declared.dieline.Point.{Point}
@@ -84,7 +87,8 @@ IsSlanted d k = ¬ (IsUpright d k) × ¬ ((from_of d k).y ≡ (to_of d k).y)
 abbrev pub across : Bool → Point → ℤ
 across upright p = if upright then p.x else p.y
 
--- panel f lies beyond the line, at the greater coordinate: one of its vertices does, and so all do that aren't on the line
+-- panel f lies beyond the line, at the greater coordinate: one of its vertices does, and so all do that
+-- aren't on the line
 abbrev pub LiesBeyond : RawDieline → ℕ → Bool → ℤ → Type 0
 LiesBeyond d f upright at = Any (λ v. at <ℤ across upright (vertex_at d v)) (vertices_of d f)
 

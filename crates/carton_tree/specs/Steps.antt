@@ -1,6 +1,9 @@
--- What the steps from a dieline to its carton make on the way: the edges of each face, the panels beside each edge, the
+-- What the steps from a dieline to its carton make on the way: the edges of each face, the panels beside each
+-- edge, the
 -- joints in order, the groups that they join, and how each panel hangs.
-use Rattle.std.specs.Prelude.{⊤, ◌≡◌, ◌⊎◌, ◌↔◌, ℕ, suc, ◌+◌, nat_eq, if◌then◌else◌, ◌<◌, ◌≤◌, List, length, All, AllPairs, Any, Contains, IsTrue, Option, None, Some, IfSome, IsSome, IsSomeAnd, slice_index_or}
+use Rattle.std.specs.Prelude.{⊤, ◌≡◌, ◌⊎◌, ◌↔◌, ℕ, suc, ◌+◌, nat_eq, if◌then◌else◌, ◌<◌, ◌≤◌, List, length}
+use Rattle.std.specs.Prelude.{All, AllPairs, Any, Contains, IsTrue, Option, None, Some, IfSome, IsSome}
+use Rattle.std.specs.Prelude.{IsSomeAnd, slice_index_or}
 use Rattle.std.specs.List.{HoldsAt}
 use Rattle.carton_base.specs.declared.dieline.RawDieline.{RawDieline}
 use Rattle.carton_base.specs.declared.dieline.Ends.{Ends}
@@ -9,7 +12,8 @@ use Rattle.carton_base.specs.declared.ids.PanelId.{PanelId}
 use Rattle.carton_base.specs.declared.limits.TheConstants.{MOST_PANELS}
 use Rattle.carton_panels.specs.Around.{Step, around}
 use Rattle.carton_panels.specs.Creases.{HasEnds, IsFirstEdge}
-use Rattle.carton_tree.specs.Joints.{vertices_of, edge_at, GoesFrom, IsSide, IsJointOf, IsJoint, IsFree, IsPlace, IsUpright, across, from_of, IsTurnOf}
+use Rattle.carton_tree.specs.Joints.{vertices_of, edge_at, GoesFrom, IsSide, IsJointOf, IsJoint, IsFree}
+use Rattle.carton_tree.specs.Joints.{IsPlace, IsUpright, across, from_of, IsTurnOf}
 use Rattle.carton_model.specs.Turning.{IsTurn}
 use Rattle.carton_tree.specs.Chains.{IsChain, AreJoined}
 use Rattle.carton_tree.specs.Rules.{IsLeast, Never}
@@ -38,7 +42,9 @@ IsLeastPanel P (Some p) = IsLeast P p.0
 -- the edges that the first sides of panel f are, in their order
 pub record AreFirstSides (d : RawDieline) (f : ℕ) (es : List EdgeId) : Type 0 where
   pub few : length es ≤ length (around (vertices_of d f))
-  pub each : (i : ℕ) (s : Step ℕ) (e : EdgeId) → i < length es → IsFirstEdge d.edges (slice_index_or es i e).0 (slice_index_or (around (vertices_of d f)) i s).from (slice_index_or (around (vertices_of d f)) i s).to
+  pub each : (i : ℕ) (s : Step ℕ) (e : EdgeId) → i < length es
+      → IsFirstEdge d.edges (slice_index_or es i e).0 (slice_index_or (around (vertices_of d f)) i s).from
+      (slice_index_or (around (vertices_of d f)) i s).to
 
 -- the edges that all its sides are
 pub record AreSides (d : RawDieline) (f : ℕ) (es : List EdgeId) : Type 0 where
@@ -54,7 +60,8 @@ pub record AreAllSides (d : RawDieline) (all : List (List EdgeId)) : Type 0 wher
 abbrev pub IsBeside : (ℕ → Type 0) → ℕ → Beside → Type 0
 IsBeside P n Nobody = (h : ℕ) → h < n → ¬ (P h)
 IsBeside P n (One f) = (f.0 < n) × P f.0 × ((h : ℕ) → h < n → P h → h ≡ f.0)
-IsBeside P n (Two f g) = (f.0 < g.0) × (g.0 < n) × P f.0 × P g.0 × ((h : ℕ) → h < n → P h → (h ≡ f.0) ⊎ (h ≡ g.0))
+IsBeside P n (Two f g) = (f.0 < g.0) × (g.0 < n) × P f.0 × P g.0
+    × ((h : ℕ) → h < n → P h → (h ≡ f.0) ⊎ (h ≡ g.0))
 IsBeside P n More = (f g h : ℕ) × (f < g) × (g < h) × (h < n) × P f × P g × P h
 
 -- what is known with one panel more that has P
@@ -67,7 +74,8 @@ with_next More p = More
 -- the panels beside each of the first edges
 pub record AreBesides (d : RawDieline) (all : List Beside) : Type 0 where
   pub few : length all ≤ length d.edges
-  pub each : (k : ℕ) (b : Beside) → k < length all → IsBeside (IsSide d k) (length d.faces) (slice_index_or all k b)
+  pub each : (k : ℕ) (b : Beside) → k < length all
+      → IsBeside (IsSide d k) (length d.faces) (slice_index_or all k b)
 
 -- edge k joins these two panels, and no others
 pub record IsPair (d : RawDieline) (k f g : ℕ) : Type 0 where
@@ -81,7 +89,8 @@ IsPairAnswer d k (Some pair) = IsPair d k pair.0.0 pair.1.0
 
 -- two panels go along edge k in the same direction, one way or the other
 abbrev pub GoBoth : RawDieline → ℕ → ℕ → ℕ → Type 0
-GoBoth d k f g = let e = edge_at d k in (GoesFrom d f e.p e.q × GoesFrom d g e.p e.q) ⊎ (GoesFrom d f e.q e.p × GoesFrom d g e.q e.p)
+GoBoth d k f g = let e = edge_at d k in (GoesFrom d f e.p e.q × GoesFrom d g e.p e.q)
+    ⊎ (GoesFrom d f e.q e.p × GoesFrom d g e.q e.p)
 
 -- a joint of the dieline between two panels, the place that it has, and its line
 pub record IsHinge (d : RawDieline) (creases : List EdgeId) (h : Hinge) : Type 0 where
@@ -107,7 +116,9 @@ pub record AreHinges (d : RawDieline) (k : ℕ) (creases : List EdgeId) (hinges 
 
 -- the joint at a place of the list joins panel f to panel g
 abbrev pub HingeJoins : List Hinge → ℕ → ℕ → ℕ → Type 0
-HingeJoins hinges i f g = (i < length hinges) × HoldsAt (λ h. ((f ≡ h.first.0) × (g ≡ h.second.0)) ⊎ ((f ≡ h.second.0) × (g ≡ h.first.0))) hinges i
+HingeJoins hinges i f g =
+    (i < length hinges)
+    × HoldsAt (λ h. ((f ≡ h.first.0) × (g ≡ h.second.0)) ⊎ ((f ≡ h.second.0) × (g ≡ h.first.0))) hinges i
 
 -- joints before place k join the two panels of the joint there
 abbrev pub ClosesLoop : List Hinge → ℕ → Type 0
@@ -119,7 +130,8 @@ AreOpen hinges n = (k : ℕ) → k < n → ¬ (ClosesLoop hinges k)
 
 -- the first joint that closes a loop has this edge
 abbrev pub IsFirstLoop : List Hinge → EdgeId → Type 0
-IsFirstLoop hinges e = (k : ℕ) × (k < length hinges) × HoldsAt (λ h. h.edge ≡ e) hinges k × ClosesLoop hinges k × AreOpen hinges k
+IsFirstLoop hinges e = (k : ℕ) × (k < length hinges) × HoldsAt (λ h. h.edge ≡ e) hinges k
+    × ClosesLoop hinges k × AreOpen hinges k
 
 -- the panels of each joint are two of the first n
 abbrev pub AreWithin : ℕ → List Hinge → Type 0
@@ -127,7 +139,8 @@ AreWithin n hinges = All (λ h. (h.first.0 < n) × (h.second.0 < n)) hinges
 
 -- panels are in one group exactly where joints before place k join them
 abbrev pub AreGroups : List Hinge → ℕ → ℕ → List ℕ → Type 0
-AreGroups hinges n k groups = (f g : ℕ) → f < n → g < n → (slice_index_or groups f 0 ≡ slice_index_or groups g 0) ↔ AreJoined (HingeJoins hinges) k f g
+AreGroups hinges n k groups = (f g : ℕ) → f < n → g < n
+    → (slice_index_or groups f 0 ≡ slice_index_or groups g 0) ↔ AreJoined (HingeJoins hinges) k f g
 
 -- how a panel hangs
 abbrev pub spot_at : List (Option Spot) → ℕ → Option Spot
@@ -137,18 +150,21 @@ spot_at spots p = slice_index_or spots p None
 abbrev pub IsWay : List Hinge → ℕ → ℕ → ℕ → Type 0
 IsWay hinges root n p = IsChain (HingeJoins hinges) (length hinges) n p root
 
--- the panel hangs so many joints below the root, and no fewer lead there; all but the root hang from their parents
+-- the panel hangs so many joints below the root, and no fewer lead there; all but the root hang from their
+-- parents
 pub record IsSpot (hinges : List Hinge) (spots : List (Option Spot)) (root p : ℕ) (s : Spot) : Type 0 where
   pub leads : IsWay hinges root s.depth p
   pub least : (n : ℕ) → n < s.depth → ¬ (IsWay hinges root n p)
   pub joins : 0 < s.depth → HingeJoins hinges s.hinge p s.parent.0
   pub parent : 0 < s.depth → IsSomeAnd (spot_at spots s.parent.0) (λ t. suc t.depth ≡ s.depth)
 
--- how the child hangs after a joint to a parent was looked at, where the panels that hang r joints below the root get children
+-- how the child hangs after a joint to a parent was looked at, where the panels that hang r joints below the
+-- root get children
 abbrev pub hung_from : Option Spot → Option Spot → PanelId → ℕ → ℕ → Option Spot
 hung_from (Some s) above parent hinge r = Some s
 hung_from None None parent hinge r = None
-hung_from None (Some a) parent hinge r = if nat_eq a.depth r then Some (record { depth = r + 1; hinge = hinge; parent = parent }) else None
+hung_from None (Some a) parent hinge r =
+    if nat_eq a.depth r then Some (record { depth = r + 1; hinge = hinge; parent = parent }) else None
 
 -- all panels that hang at most r joints below the root are known, and perhaps some that hang one more
 pub record AreKnown (hinges : List Hinge) (root r : ℕ) (spots : List (Option Spot)) : Type 0 where
@@ -159,7 +175,8 @@ pub record AreKnown (hinges : List Hinge) (root r : ℕ) (spots : List (Option S
 -- so are those that hang one more by the first i joints
 pub record AreReached (hinges : List Hinge) (root r i : ℕ) (spots : List (Option Spot)) : Type 0 where
   pub known : AreKnown hinges root r spots
-  pub reached : (j f g : ℕ) → j < i → f < MOST_PANELS → HingeJoins hinges j f g → IsWay hinges root r g → IsSome (spot_at spots f)
+  pub reached : (j f g : ℕ) → j < i → f < MOST_PANELS → HingeJoins hinges j f g → IsWay hinges root r g
+      → IsSome (spot_at spots f)
 
 -- the panels that hang at most r joints below the root, and no others
 pub record AreSpots (hinges : List Hinge) (root r : ℕ) (spots : List (Option Spot)) : Type 0 where
@@ -168,7 +185,8 @@ pub record AreSpots (hinges : List Hinge) (root r : ℕ) (spots : List (Option S
   pub whole : (p n : ℕ) → p < MOST_PANELS → n ≤ r → IsWay hinges root n p → IsSome (spot_at spots p)
 
 -- the joint by which panel p hangs as the spot says
-pub record IsJointBy (d : RawDieline) (creases : List EdgeId) (hinges : List Hinge) (p : ℕ) (s : Spot) (j : Joint) : Type 0 where
+pub record IsJointBy (d : RawDieline) (creases : List EdgeId) (hinges : List Hinge) (p : ℕ) (s : Spot)
+    (j : Joint) : Type 0 where
   pub below : 0 < s.depth
   pub edge : HoldsAt (λ h. j.edge ≡ h.edge) hinges s.hinge
   pub parent : j.parent ≡ s.parent
@@ -183,6 +201,8 @@ IsJointAnswer d creases hinges p (Some s) None = s.depth ≡ 0
 IsJointAnswer d creases hinges p (Some s) (Some j) = IsJointBy d creases hinges p s j
 
 -- the joints of the panels to their parents
-pub record AreJoints (d : RawDieline) (creases : List EdgeId) (hinges : List Hinge) (spots : List (Option Spot)) (joints : List (Option Joint)) : Type 0 where
+pub record AreJoints (d : RawDieline) (creases : List EdgeId) (hinges : List Hinge)
+    (spots : List (Option Spot)) (joints : List (Option Joint)) : Type 0 where
   pub few : length joints ≤ length d.faces
-  pub each : (p : ℕ) → p < length joints → IsJointAnswer d creases hinges p (spot_at spots p) (joint_of joints p)
+  pub each : (p : ℕ) → p < length joints
+      → IsJointAnswer d creases hinges p (spot_at spots p) (joint_of joints p)

@@ -1,5 +1,7 @@
 -- A carton as a tree of panels: parents, paths to the root, and the turns on the way.
-use Rattle.std.specs.Prelude.{◌≡◌, ◌⊎◌, ℕ, zero, suc, ◌<◌, List, [], ◌∷◌, ◌++◌, length, map, take, reverse, Bool, nat_eq, if◌then◌else◌, Option, None, Some, IfSome, IsSomeAnd, slice_index_or}
+use Rattle.std.specs.Prelude.{◌≡◌, ◌⊎◌, ℕ, zero, suc, ◌<◌, List, [], ◌∷◌, ◌++◌, length, map, take, reverse}
+use Rattle.std.specs.Prelude.{Bool, nat_eq, if◌then◌else◌, Option, None, Some, IfSome, IsSomeAnd}
+use Rattle.std.specs.Prelude.{slice_index_or}
 use Rattle.std.specs.List.{list_any}
 use Rattle.carton_base.specs.declared.ids.EdgeId.{EdgeId}
 use Rattle.carton_base.specs.declared.ids.PanelId.{PanelId}
@@ -11,7 +13,8 @@ use Rattle.carton_tree.specs.declared.joint.Joint.{Joint}
 use Rattle.carton_tree.specs.declared.route.Route.{Route}
 use Rattle.carton_tree.specs.Rules.{IsLeast}
 
--- the panels of a carton, its root, for each panel the joint to its parent, and the free joints in the order of their edges
+-- the panels of a carton, its root, for each panel the joint to its parent, and the free joints in the order
+-- of their edges
 pub record Tree : Type 0 where
   pub panels : List Shape
   pub root : ℕ
@@ -89,10 +92,12 @@ number_or root (Some p) = p.0
 unfoldable pub parting : Tree → ℕ → ℕ → ℕ
 parting t a b = number_or t.root (first_shared (path t.joints a) (path t.joints b))
 
--- the turns of a flat point of panel p into a frame: up to the deepest panel on both paths, and from there down, each
+-- the turns of a flat point of panel p into a frame: up to the deepest panel on both paths, and from there
+-- down, each
 -- turn the other way
 unfoldable pub turns_between : Tree → ℕ → ℕ → List Turn
-turns_between t p frame = let top = parting t p frame in turns_up t.joints p top ++ reverse (map turned_back (turns_up t.joints frame top))
+turns_between t p frame = let top = parting t p frame in
+    turns_up t.joints p top ++ reverse (map turned_back (turns_up t.joints frame top))
 
 -- what is told of the turns into a frame: they, or that there are more than 8
 abbrev pub IsRoute : List Turn → Option Route → Type 0

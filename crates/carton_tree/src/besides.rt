@@ -1,5 +1,4 @@
-ghost use Rattle.std.specs.Prelude.{◌≡◌, ℕ, ◌<◌, ◌≤◌, length, Contains, IsTrue, ◌↔◌, IfOk, IfErr, OnOk};
-ghost use Rattle.carton_base.specs.declared.ids.EdgeId.{EdgeId};
+ghost use Rattle.std.specs.Prelude.{◌≡◌, ◌<◌, ◌≤◌, length, Contains, IsTrue, ◌↔◌, IfOk, IfErr};
 ghost use Rattle.carton_model.specs.Dielines.{IsDieline};
 ghost use Rattle.carton_tree.specs.Joints.{IsSide};
 ghost use Rattle.carton_tree.specs.Steps.{AreAllSides, AreBesides, IsBeside, with_next};

@@ -1,9 +1,9 @@
-ghost use Rattle.std.specs.Prelude.{◌≡◌, ◌≢◌, ℕ, ◌<◌, ◌≤◌, length, IfOk, IfErr, OnOk, IsSome};
+ghost use Rattle.std.specs.Prelude.{◌≡◌, ℕ, ◌<◌, ◌≤◌, length, IfOk, IfErr, OnOk};
 ghost use Rattle.carton_base.specs.declared.limits.TheConstants.{MOST_PANELS, LONGEST_PATH};
 ghost use Rattle.carton_model.specs.Dielines.{IsDieline};
 ghost use Rattle.carton_panels.specs.DielinePanels.{AreShapes};
-ghost use Rattle.carton_tree.specs.Chains.{LeadsTo};
-ghost use Rattle.carton_tree.specs.Rules.{Never, IsThreefold, IsOneWay, IsSlantedJoint, IsApart, IsDeep, IsBare, IsLoop};
+ghost use Rattle.carton_tree.specs.Rules.{Never, IsThreefold, IsOneWay, IsSlantedJoint, IsApart, IsDeep};
+ghost use Rattle.carton_tree.specs.Rules.{IsBare};
 ghost use Rattle.carton_tree.specs.Steps.{AreBesides, AreGroups, AreHinges, AreOpen, AreSpots, IsLeastPanel};
 ghost use Rattle.carton_tree.specs.Answers.{IsTreeAnswer, IsPanelsAnswer, IsEdgesAnswer, IsHungAnswer};
 

@@ -1,10 +1,11 @@
-ghost use Rattle.std.specs.Prelude.{◌≡◌, ◌↔◌, ℕ, ◌<◌, ◌≤◌, length, All, Contains, IsTrue, slice_get, slice_index_or, IfOk, IfErr, IsSomeAnd, Some, None};
-ghost use Rattle.carton_base.specs.declared.ids.PanelId.{PanelId};
-ghost use Rattle.carton_base.specs.declared.limits.TheConstants.{MOST_JOINTS, MOST_PANELS};
+ghost use Rattle.std.specs.Prelude.{◌≡◌, ◌↔◌, ℕ, ◌<◌, ◌≤◌, length, All, Contains, IsTrue, slice_get};
+ghost use Rattle.std.specs.Prelude.{slice_index_or, IfOk, IfErr, IsSomeAnd, Some, None};
+ghost use Rattle.carton_base.specs.declared.limits.TheConstants.{LONGEST_PATH, MOST_JOINTS, MOST_PANELS};
 ghost use Rattle.carton_model.specs.Turning.{IsTurn};
 ghost use Rattle.carton_panels.specs.Shapes.{Shape};
 ghost use Rattle.carton_tree.specs.Cartons.{IsCarton, AreStarts};
-ghost use Rattle.carton_tree.specs.Trees.{joint_of, SharesCrease, IsChild, IsParent, IsRoute, turns_between, parting, path, turns_up};
+ghost use Rattle.carton_tree.specs.Trees.{joint_of, SharesCrease, IsChild, IsParent, IsRoute, turns_between};
+ghost use Rattle.carton_tree.specs.Trees.{parting, path, turns_by, turns_up};
 
 use crate::error::TreeError;
 use crate::joint::Joint;
@@ -39,9 +40,20 @@ impl Model for Carton {
 
     ghost Value = { Tree };
 
-    ghost view = { λ c. record { panels = c.panels.items; root = c.root.0; joints = c.joints.items; creases = c.creases.items } };
+    ghost view = { λ c. record {
+      panels = c.panels.items;
+      root = c.root.0;
+      joints = c.joints.items;
+      creases = c.creases.items;
+    } };
 
-    ghost invariant = { λ c. let t : Tree = record { panels = c.panels.items; root = c.root.0; joints = c.joints.items; creases = c.creases.items } in IsCarton t × AreKept t (length t.panels) c.starts.items c.paths.items c.turns.items };
+    ghost invariant = { λ c. let t : Tree = record {
+      panels = c.panels.items;
+      root = c.root.0;
+      joints = c.joints.items;
+      creases = c.creases.items;
+    } in
+        IsCarton t × AreKept t (length t.panels) c.starts.items c.paths.items c.turns.items };
 }
 
 // Where the flat points stand.
@@ -64,8 +76,18 @@ pub fn carton_of(
     joints: Vec<Option<Joint>>,
     creases: Vec<EdgeId>,
 ) -> Result<Carton, TreeError>
-    requires carton { IsCarton (record { panels = panels.items; root = root.0; joints = joints.items; creases = creases.items }) }
-    ensures value { IfOk result (λ t. t ≡ record { panels = panels.items; root = root.0; joints = joints.items; creases = creases.items }) }
+    requires carton { IsCarton (record {
+      panels = panels.items;
+      root = root.0;
+      joints = joints.items;
+      creases = creases.items;
+    }) }
+    ensures value { IfOk result (λ t. t ≡ record {
+      panels = panels.items;
+      root = root.0;
+      joints = joints.items;
+      creases = creases.items;
+    }) }
     ensures err { IfErr result (λ e. e ≡ TreeError.Memory) }
 {
     let mut starts = Vec::new(alloc);
@@ -173,6 +195,15 @@ impl Carton {
         self.paths[p.0 as usize].as_slice()
     }
 
+    // The turns from the panel up to the root, its own joint's first.
+    fn turns_to_root(&self, p: PanelId) -> &[Turn]
+        requires { p.0 < length self.now.panels }
+        ensures turns { result.now ≡ turns_by LONGEST_PATH self.now.joints p.0 }
+        ensures carton { IsCarton self.now }
+    {
+        self.turns[p.0 as usize].as_slice()
+    }
+
     /// The turns from the panel up to a frame on its path, its own joint's first.
     pub fn turns(&self, p: PanelId, frame: PanelId) -> &[Turn]
         requires p { p.0 < length self.now.panels }
@@ -182,7 +213,7 @@ impl Carton {
         ensures few { length result.now ≤ 8 }
     {
         let steps = steps_to(frame, self.path(p));
-        &self.turns[p.0 as usize].as_slice()[..steps]
+        &self.turns_to_root(p)[..steps]
     }
 
     /// The deepest panel on the paths of both.

@@ -1,5 +1,5 @@
-ghost use Rattle.std.specs.Prelude.{◌≡◌, ◌↔◌, ℕ, ◌<◌, ◌≤◌, length, IsTrue, IfOk, IfErr, OnOk, if◌then◌else◌, nat_eq, slice_index_or};
-ghost use Rattle.carton_base.specs.declared.ids.EdgeId.{EdgeId};
+ghost use Rattle.std.specs.Prelude.{◌≡◌, ◌↔◌, ℕ, ◌<◌, ◌≤◌, length, IsTrue, IfOk, IfErr, OnOk, if◌then◌else◌};
+ghost use Rattle.std.specs.Prelude.{nat_eq, slice_index_or};
 ghost use Rattle.carton_base.specs.declared.limits.TheConstants.{MOST_PANELS};
 ghost use Rattle.carton_tree.specs.Steps.{AreGroups, AreWithin, AreOpen, IsFirstLoop};
 
@@ -24,7 +24,8 @@ fn alone() -> Groups
 // Puts every panel of the one group into the other.
 fn merged(groups: Groups, from: u8, to: u8) -> Groups
     ensures len { length result ≡ MOST_PANELS }
-    ensures each { (p : ℕ) → p < MOST_PANELS → slice_index_or result p 0 ≡ (if nat_eq (slice_index_or groups p 0) from then to else slice_index_or groups p 0) }
+    ensures each { (p : ℕ) → p < MOST_PANELS → slice_index_or result p 0
+        ≡ (if nat_eq (slice_index_or groups p 0) from then to else slice_index_or groups p 0) }
 {
     let mut all = groups;
     for p in 0..MOST_PANELS {

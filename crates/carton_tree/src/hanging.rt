@@ -1,4 +1,5 @@
-ghost use Rattle.std.specs.Prelude.{◌≡◌, ℕ, ◌<◌, ◌≤◌, length, slice_index_or, IsTrue, ◌↔◌, IfOk, IfErr, IfSome, Some, pos, neg_ℤ, ◌<ℤ◌, unsigned_abs};
+ghost use Rattle.std.specs.Prelude.{◌≡◌, ℕ, ◌<◌, ◌≤◌, length, slice_index_or, IsTrue, ◌↔◌, IfOk, IfErr};
+ghost use Rattle.std.specs.Prelude.{IfSome, Some, pos, neg_ℤ, ◌<ℤ◌, unsigned_abs};
 ghost use Rattle.carton_base.specs.declared.limits.TheConstants.{MOST_JOINTS};
 ghost use Rattle.carton_model.specs.Dielines.{IsDieline};
 ghost use Rattle.carton_model.specs.Turning.{IsTurn};
@@ -70,7 +71,9 @@ fn turn_of(raw: &RawDieline, hinges: &Hinges, i: usize, child: PanelId) -> Turn
     requires hinges { AreHinges raw.now (length raw.now.edges) hinges.now.creases.items hinges.now.all.items }
     requires few { length hinges.now.all.items ≤ MOST_JOINTS }
     requires i { i < length hinges.now.all.items }
-    ensures turn { (h : Hinge) → IsTurnOf raw.now hinges.now.creases.items (slice_index_or hinges.now.all.items i h).edge.0 child.0 result }
+    ensures turn { (h : Hinge)
+        → IsTurnOf raw.now hinges.now.creases.items (slice_index_or hinges.now.all.items i h).edge.0 child.0
+        result }
     ensures valid { IsTurn result }
 {
     let hinge = hinges.all[i];
@@ -112,8 +115,10 @@ pub fn joints_of(
     requires dieline { IsDieline raw.now }
     requires hinges { AreHinges raw.now (length raw.now.edges) hinges.now.creases.items hinges.now.all.items }
     requires few { length hinges.now.all.items ≤ MOST_JOINTS }
-    requires spots { (p : ℕ) → IfSome (spot_at spots.now p) (λ s. 0 < s.depth → s.hinge < length hinges.now.all.items) }
-    ensures joints { IfOk result (λ v. AreJoints raw.now hinges.now.creases.items hinges.now.all.items spots.now v.items) }
+    requires spots { (p : ℕ)
+        → IfSome (spot_at spots.now p) (λ s. 0 < s.depth → s.hinge < length hinges.now.all.items) }
+    ensures joints { IfOk result (λ v. AreJoints raw.now hinges.now.creases.items hinges.now.all.items
+        spots.now v.items) }
     ensures whole { IfOk result (λ v. length v.items ≡ length raw.now.faces) }
     ensures err { IfErr result (λ e. e ≡ TreeError.Memory) }
 {

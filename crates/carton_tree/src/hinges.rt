@@ -1,7 +1,7 @@
-ghost use Rattle.std.specs.Prelude.{◌≡◌, ◌↔◌, ℕ, ◌+◌, ◌<◌, ◌≤◌, ◌++◌, [], ◌∷◌, length, IsTrue, IfOk, IfErr, OnOk, None, Some};
-ghost use Rattle.carton_base.specs.declared.ids.EdgeId.{EdgeId};
+ghost use Rattle.std.specs.Prelude.{◌≡◌, ◌↔◌, ℕ, ◌+◌, ◌<◌, ◌≤◌, ◌++◌, [], ◌∷◌, length, IsTrue, IfOk, IfErr};
+ghost use Rattle.std.specs.Prelude.{OnOk, None, Some};
 ghost use Rattle.carton_model.specs.Dielines.{IsDieline};
-ghost use Rattle.carton_tree.specs.Joints.{AreCreases, IsLocked, IsUpright, across, from_of};
+ghost use Rattle.carton_tree.specs.Joints.{IsLocked, IsUpright, across, from_of};
 ghost use Rattle.carton_tree.specs.Rules.{Never, IsThreefold};
 ghost use Rattle.carton_tree.specs.Steps.{AreBesides, AreHinges, AreCreasesBelow};
 

@@ -1,6 +1,8 @@
-ghost use Rattle.std.specs.Prelude.{◌≡◌, ℕ, ◌<◌, ◌≤◌, length, All, Contains, IsTrue, ◌↔◌, IfOk, IfErr, IfSome};
+ghost use Rattle.std.specs.Prelude.{◌≡◌, ℕ, ◌<◌, ◌≤◌, length, All, Contains, IsTrue, ◌↔◌, IfOk, IfErr};
+ghost use Rattle.std.specs.Prelude.{IfSome};
 ghost use Rattle.carton_base.specs.declared.limits.TheConstants.{LONGEST_PATH};
-ghost use Rattle.carton_tree.specs.Trees.{steps_to, is_among, first_shared, path, path_by, turns_by, AreParents};
+ghost use Rattle.carton_tree.specs.Trees.{steps_to, is_among, first_shared, path, path_by, turns_by};
+ghost use Rattle.carton_tree.specs.Trees.{AreParents};
 
 use crate::error::TreeError;
 use crate::joint::Joint;

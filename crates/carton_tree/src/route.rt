@@ -1,4 +1,5 @@
-ghost use Rattle.std.specs.Prelude.{◌≡◌, ◌+◌, ◌<◌, ◌≤◌, ◌++◌, length, map, take, reverse, slice_index_or, All};
+ghost use Rattle.std.specs.Prelude.{◌≡◌, ◌+◌, ◌<◌, ◌≤◌, ◌++◌, length, map, take, reverse, slice_index_or};
+ghost use Rattle.std.specs.Prelude.{All};
 ghost use Rattle.carton_base.specs.declared.motion.Turn.{Turn};
 ghost use Rattle.carton_model.specs.Turning.{IsTurn, turned_back};
 ghost use Rattle.carton_tree.specs.Trees.{IsRoute};

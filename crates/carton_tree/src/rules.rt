@@ -1,7 +1,6 @@
-ghost use Rattle.std.specs.Prelude.{◌≡◌, ◌⊎◌, ℕ, ◌<◌, ◌≤◌, length, Contains, IsTrue, ◌↔◌, slice_get, slice_index_or};
-ghost use Rattle.carton_base.specs.declared.dieline.Letter.{Letter};
+ghost use Rattle.std.specs.Prelude.{◌≡◌, ◌⊎◌, ℕ, ◌<◌, ◌≤◌, length, Contains, IsTrue, ◌↔◌, slice_get};
+ghost use Rattle.std.specs.Prelude.{slice_index_or};
 ghost use Rattle.carton_model.specs.Dielines.{IsDieline};
-ghost use Rattle.carton_panels.specs.Around.{Step, around};
 ghost use Rattle.carton_panels.specs.Creases.{Joins};
 ghost use Rattle.carton_tree.specs.Joints.{IsSlanted, IsJointOf, IsJoint, edge_at, vertices_of};
 ghost use Rattle.carton_tree.specs.Rules.{Never, IsThreefold, IsOneWay, IsSlantedJoint};

@@ -1,6 +1,5 @@
-ghost use Rattle.std.specs.Prelude.{◌≡◌, ◌≢◌, ℕ, ◌<◌, ◌≤◌, length, Any, Contains, IsTrue, ◌↔◌, IfOk, IfErr, slice_index_or};
-ghost use Rattle.carton_base.specs.declared.dieline.Ends.{Ends};
-ghost use Rattle.carton_base.specs.declared.ids.EdgeId.{EdgeId};
+ghost use Rattle.std.specs.Prelude.{◌≡◌, ◌≢◌, ℕ, ◌<◌, ◌≤◌, length, Any, Contains, IsTrue, ◌↔◌, IfOk, IfErr};
+ghost use Rattle.std.specs.Prelude.{slice_index_or};
 ghost use Rattle.carton_base.specs.declared.ids.PanelId.{PanelId};
 ghost use Rattle.carton_base.specs.declared.limits.TheConstants.{MOST_EDGES};
 ghost use Rattle.carton_model.specs.Dielines.{IsDieline};
@@ -8,7 +7,7 @@ ghost use Rattle.carton_panels.specs.Around.{Step, around};
 ghost use Rattle.carton_panels.specs.Creases.{HasEnds};
 ghost use Rattle.carton_tree.specs.Joints.{vertices_of};
 ghost use Rattle.carton_tree.specs.Rules.{IsBare, IsSooner};
-ghost use Rattle.carton_tree.specs.Steps.{IsEdgeAnswer, AreFirstSides, AreSides, AreAllSides};
+ghost use Rattle.carton_tree.specs.Steps.{IsEdgeAnswer, AreSides, AreAllSides};
 
 use crate::error::TreeError;
 use carton_base::{EdgeId, Ends, Listed, PanelId, RawDieline};
@@ -49,7 +48,10 @@ pub fn vertices_of(raw: &RawDieline, face: PanelId) -> &[u16]
 // The two vertices of side i.
 fn side_at(vertices: &[u16], i: usize) -> (u16, u16)
     requires { i < length vertices.now }
-    ensures { (d : Step ℕ) → slice_index_or (around vertices.now) i d ≡ record { from = result.0; to = result.1 } }
+    ensures { (d : Step ℕ) → slice_index_or (around vertices.now) i d ≡ record {
+      from = result.0;
+      to = result.1;
+    } }
 {
     let next = if i + 1 < vertices.len() {
         vertices[i + 1]
@@ -77,7 +79,8 @@ fn sides_of(alloc: Global, raw: &RawDieline, face: PanelId) -> Result<Vec<EdgeId
     requires dieline { IsDieline raw.now }
     requires face { face.0 < length raw.now.faces }
     ensures sides { IfOk result (λ v. AreSides raw.now face.0 v.items) }
-    ensures bare { IfErr result (λ e. e ≢ TreeError.Memory → (i : ℕ) × (e ≡ TreeError.SideNoEdge face i) × IsBare raw.now face.0 i
+    ensures bare { IfErr result (λ e. e ≢ TreeError.Memory → (i : ℕ) × (e ≡ TreeError.SideNoEdge face i)
+        × IsBare raw.now face.0 i
         × ((j : ℕ) → j < i → ¬ (IsBare raw.now face.0 j))) }
 {
     let vertices = vertices_of(raw, face);
@@ -97,7 +100,8 @@ pub fn all_sides(alloc: Global, raw: &RawDieline) -> Result<Vec<Listed<EdgeId>>,
     requires dieline { IsDieline raw.now }
     ensures sides { IfOk result (λ v. AreAllSides raw.now v.items) }
     ensures whole { IfOk result (λ v. length v.items ≡ length raw.now.faces) }
-    ensures bare { IfErr result (λ e. e ≢ TreeError.Memory → (f : PanelId) × (i : ℕ) × (e ≡ TreeError.SideNoEdge f i) × IsBare raw.now f.0 i
+    ensures bare { IfErr result (λ e. e ≢ TreeError.Memory → (f : PanelId) × (i : ℕ)
+        × (e ≡ TreeError.SideNoEdge f i) × IsBare raw.now f.0 i
         × ((g j : ℕ) → IsSooner g j f.0 i → ¬ (IsBare raw.now g j))) }
 {
     let mut all = Vec::new(alloc);

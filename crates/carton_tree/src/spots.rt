@@ -49,7 +49,8 @@ fn hang(spots: &mut Spots, hinges: &[Hinge], i: usize, r: u8)
     requires within { AreWithin MOST_PANELS hinges.now }
     requires i { i < length hinges.now }
     requires r { r < LONGEST_PATH }
-    ensures { (root : ℕ) → AreReached hinges.now root r i spots.old → AreReached hinges.now root r (i + 1) spots.new }
+    ensures { (root : ℕ) → AreReached hinges.now root r i spots.old
+        → AreReached hinges.now root r (i + 1) spots.new }
 {
     let first = hinges[i].first;
     let second = hinges[i].second;

@@ -1,4 +1,5 @@
 use carton_base::{EdgeId, PanelId, Turn};
+use carton_cases::carton_of;
 use carton_fold::read_dieline;
 use carton_panels::PanelError;
 use carton_tree::{Carton, Joint, TreeError, tree};
@@ -79,13 +80,6 @@ fn refusal(alloc: Global, text: &str, margin: u16, root: u8) -> Option<TreeError
     }
 }
 
-fn is_carton(alloc: Global, text: &str, root: u8) -> bool {
-    match answer(alloc, text, 4, root) {
-        Some(Ok(_)) => true,
-        _ => false,
-    }
-}
-
 // The joint of a panel; None too where there is no such panel.
 fn joint(carton: &Carton, p: u8) -> Option<Joint> {
     if p < carton.panels() {
@@ -111,16 +105,15 @@ fn refuses_a_face_that_is_no_panel(rt: HostRuntime) -> Result<(), Fail> {
 #[test]
 fn refuses_a_side_that_is_no_edge(rt: HostRuntime) -> Result<(), Fail> {
     let alloc = rt.alloc();
-    let text = two(alloc, "[0,1],[1,4],[4,3],[3,0],[1,2],[5,4]", BORDER)?;
-    let expected = Some(TreeError::SideNoEdge(PanelId(1), 1));
-    assert_eq!(rt; refusal(alloc, text.as_str(), 4, 9), expected);
-    let text = two(
-        alloc,
-        "[0,1],[1,4],[4,3],[1,2],[5,4]",
-        "\"B\",\"B\",\"B\",\"B\",\"B\"",
-    )?;
-    let expected = Some(TreeError::SideNoEdge(PanelId(0), 3));
-    assert_eq!(rt; refusal(alloc, text.as_str(), 4, 9), expected);
+    let five = "\"B\",\"B\",\"B\",\"B\",\"B\"";
+    for (edges, letters, panel, side) in [
+        ("[0,1],[1,4],[4,3],[3,0],[1,2],[5,4]", BORDER, 1, 1),
+        ("[0,1],[1,4],[4,3],[1,2],[5,4]", five, 0, 3),
+    ] {
+        let text = two(alloc, edges, letters)?;
+        let expected = TreeError::SideNoEdge(PanelId(panel), side);
+        assert_eq!(rt; refusal(alloc, text.as_str(), 4, 9), Some(expected));
+    }
     Ok(())
 }
 
@@ -161,84 +154,56 @@ fn refuses_a_moved_vertex(rt: HostRuntime) -> Result<(), Fail> {
     Ok(())
 }
 
+// Two squares that share an edge, with all their sides and then these edges and letters.
+fn bordered(alloc: Global, edges: &str, letters: &str) -> Result<String, AllocError> {
+    let edges = format!(in alloc; "{SIDES},{edges}")?;
+    let letters = format!(in alloc; "{BORDER},{letters}")?;
+    two(alloc, edges.as_str(), letters.as_str())
+}
+
 #[test]
 fn refuses_loops_roots_and_parts(rt: HostRuntime) -> Result<(), Fail> {
     let alloc = rt.alloc();
-    assert_eq!(rt;
-        refusal(alloc, QUAD, 4, 9),
-        Some(TreeError::Loop(EdgeId(11)))
-    );
-    let sides = format!(in alloc; "{SIDES},[1,4]")?;
-    let joined = two(
-        alloc,
-        sides.as_str(),
-        format!(in alloc; "{BORDER},\"V\"")?.as_str(),
-    )?;
-    assert_eq!(rt;
-        refusal(alloc, joined.as_str(), 4, 2),
-        Some(TreeError::NoRoot(2))
-    );
-    assert!(rt; is_carton(alloc, joined.as_str(), 1));
-    let apart = two(
-        alloc,
-        sides.as_str(),
-        format!(in alloc; "{BORDER},\"B\"")?.as_str(),
-    )?;
-    assert_eq!(rt;
-        refusal(alloc, apart.as_str(), 4, 0),
-        Some(TreeError::Apart(PanelId(1)))
-    );
-    assert_eq!(rt;
-        refusal(alloc, apart.as_str(), 4, 1),
-        Some(TreeError::Apart(PanelId(0)))
-    );
+    let joined = bordered(alloc, "[1,4]", "\"V\"")?;
+    let apart = bordered(alloc, "[1,4]", "\"B\"")?;
+    let slit = bordered(alloc, "[1,4],[4,1]", "\"B\",\"V\"")?;
+    for (text, root, expected) in [
+        (QUAD, 9, TreeError::Loop(EdgeId(11))),
+        (joined.as_str(), 2, TreeError::NoRoot(2)),
+        (apart.as_str(), 0, TreeError::Apart(PanelId(1))),
+        (apart.as_str(), 1, TreeError::Apart(PanelId(0))),
+        (slit.as_str(), 0, TreeError::Apart(PanelId(1))),
+    ] {
+        assert_eq!(rt; refusal(alloc, text, 4, root), Some(expected), "at {text}");
+    }
+    assert!(rt; carton_of(alloc, joined.as_str(), 4, 1).is_some());
     Ok(())
 }
 
 #[test]
 fn takes_eight_joints_from_the_root(rt: HostRuntime) -> Result<(), Fail> {
     let alloc = rt.alloc();
-    assert!(rt; is_carton(alloc, strip(alloc, 9)?.as_str(), 0));
-    assert!(rt; is_carton(alloc, strip(alloc, 9)?.as_str(), 8));
-    let ten = strip(alloc, 10)?;
-    assert_eq!(rt;
-        refusal(alloc, ten.as_str(), 4, 0),
-        Some(TreeError::TooDeep(PanelId(9)))
-    );
-    assert_eq!(rt;
-        refusal(alloc, ten.as_str(), 4, 9),
-        Some(TreeError::TooDeep(PanelId(0)))
-    );
-    let long = strip(alloc, 17)?;
-    assert!(rt; is_carton(alloc, long.as_str(), 8));
-    assert_eq!(rt;
-        refusal(alloc, long.as_str(), 4, 7),
-        Some(TreeError::TooDeep(PanelId(16)))
-    );
+    for (panels, root, far) in [
+        (9, 0, None),
+        (9, 8, None),
+        (10, 0, Some(9)),
+        (10, 9, Some(0)),
+        (17, 8, None),
+        (17, 7, Some(16)),
+    ] {
+        let row = strip(alloc, panels)?;
+        let found = answer(alloc, row.as_str(), 4, root).map(|found| found.err());
+        let expected = far.map(|panel| TreeError::TooDeep(PanelId(panel)));
+        assert_eq!(rt; found, Some(expected), "{panels} from {root}");
+    }
     Ok(())
 }
 
 #[test]
 fn takes_the_first_of_two_equal_edges(rt: HostRuntime) -> Result<(), Fail> {
-    let alloc = rt.alloc();
-    let edges = format!(in alloc; "{SIDES},[1,4],[4,1]")?;
-    let slit = two(
-        alloc,
-        edges.as_str(),
-        format!(in alloc; "{BORDER},\"B\",\"V\"")?.as_str(),
-    )?;
-    assert_eq!(rt;
-        refusal(alloc, slit.as_str(), 4, 0),
-        Some(TreeError::Apart(PanelId(1)))
-    );
-    let crease = two(
-        alloc,
-        edges.as_str(),
-        format!(in alloc; "{BORDER},\"V\",\"B\"")?.as_str(),
-    )?;
-    let Some(Ok(carton)) = answer(alloc, crease.as_str(), 4, 0) else {
-        assert!(rt; false, "no carton");
-        return Ok(());
+    let crease = bordered(rt.alloc(), "[1,4],[4,1]", "\"V\",\"B\"")?;
+    let Some(carton) = carton_of(rt.alloc(), crease.as_str(), 4, 0) else {
+        panic!(rt; "no carton");
     };
     assert_eq!(rt; carton.child(EdgeId(6)), Some(PanelId(1)));
     assert_eq!(rt; carton.child(EdgeId(7)), None);
@@ -246,10 +211,9 @@ fn takes_the_first_of_two_equal_edges(rt: HostRuntime) -> Result<(), Fail> {
 }
 
 #[test]
-fn tells_joints_by_their_sides(rt: HostRuntime) -> Result<(), Fail> {
-    let Some(Ok(carton)) = answer(rt.alloc(), CROSS, 4, 0) else {
-        assert!(rt; false, "no carton");
-        return Ok(());
+fn tells_joints_by_their_sides(rt: HostRuntime) {
+    let Some(carton) = carton_of(rt.alloc(), CROSS, 4, 0) else {
+        panic!(rt; "no carton");
     };
     assert_eq!(rt; carton.root(), PanelId(0));
     assert_eq!(rt; joint(&carton, 0), None);
@@ -275,18 +239,15 @@ fn tells_joints_by_their_sides(rt: HostRuntime) -> Result<(), Fail> {
         assert_eq!(rt; carton.child(edge), Some(PanelId(child)));
     }
     assert!(rt; carton.creases() == [EdgeId(0), EdgeId(1), EdgeId(3)].as_slice());
-    Ok(())
 }
 
 #[test]
-fn tells_paths_turns_and_routes(rt: HostRuntime) -> Result<(), Fail> {
-    let Some(Ok(carton)) = answer(rt.alloc(), CROSS, 4, 1) else {
-        assert!(rt; false, "no carton");
-        return Ok(());
+fn tells_paths_turns_and_routes(rt: HostRuntime) {
+    let Some(carton) = carton_of(rt.alloc(), CROSS, 4, 1) else {
+        panic!(rt; "no carton");
     };
     if carton.panels() != 5 {
-        assert!(rt; false, "not five panels");
-        return Ok(());
+        panic!(rt; "not five panels");
     }
     let (root, middle, right, left) = (PanelId(1), PanelId(0), PanelId(2), PanelId(4));
     assert!(rt; carton.path(right) == [right, middle, root].as_slice());
@@ -308,8 +269,7 @@ fn tells_paths_turns_and_routes(rt: HostRuntime) -> Result<(), Fail> {
         sign: 1,
     };
     let Some(route) = carton.route(right, left) else {
-        assert!(rt; false, "no route");
-        return Ok(());
+        panic!(rt; "no route");
     };
     assert_eq!(rt; route.count, 2);
     assert_eq!(rt; route.turns[0], up);
@@ -318,5 +278,4 @@ fn tells_paths_turns_and_routes(rt: HostRuntime) -> Result<(), Fail> {
         carton.starts(right).len(),
         carton.panel(right).shrunk().len()
     );
-    Ok(())
 }

@@ -11,4 +11,6 @@ returns c =
     let y : SFits w32 place.y = search rules in
     let wide_x : SFits w64 c.from.result = search rules in
     let wide_y : SFits w64 c.from-2.result = search rules in
-    on_shape c.args.shape.now place _ _ c.in_shrunk.result (to_z-of_z w64 c.from.result wide_x ∙ c.from.ensures ∙ to_z-of_z w32 place.x x) (to_z-of_z w64 c.from-2.result wide_y ∙ c.from-2.ensures ∙ to_z-of_z w32 place.y y) c.in_shrunk.ensures
+    on_shape c.args.shape.now place _ _ c.in_shrunk.result (to_z-of_z w64 c.from.result wide_x
+    ∙ c.from.ensures ∙ to_z-of_z w32 place.x x) (to_z-of_z w64 c.from-2.result wide_y ∙ c.from-2.ensures
+    ∙ to_z-of_z w32 place.y y) c.in_shrunk.ensures

@@ -11,7 +11,10 @@ loop-k-preserved c =
     let x : SFits w32 (get_or c.args.numbers.now (2 * c.loop-k.k) (pos 0)) = search rules in
     let y : SFits w32 (get_or c.args.numbers.now (2 * c.loop-k.k + 1) (pos 0)) = search rules in
     let items = simp to_z-of_z at c.in_ok-push.ensures.items in
-    rw items (more_points c.loop-k.found.items c.args.numbers.now c.args.numbers.now c.loop-k.k (pos 0) (pos 0) two c.loop-k.invariant)
+    rw items (more_points c.loop-k.found.items c.args.numbers.now c.args.numbers.now c.loop-k.k (pos 0)
+    (pos 0) two c.loop-k.invariant)
 
 pub returns : goal.returns
-returns c = let done = c.loop-k-test.false in all_points c.loop-k.found.items c.args.numbers.now c.args.numbers.now c.loop-k.k (omega (arith, done)) c.loop-k.invariant
+returns c = let done = c.loop-k-test.false in
+    all_points c.loop-k.found.items c.args.numbers.now c.args.numbers.now c.loop-k.k (omega (arith, done))
+    c.loop-k.invariant

@@ -10,17 +10,26 @@ use Rattle.carton_catalogue.proofs.values.values.Goals as goal
 pub returns-in_err-value : goal.returns-in_err-value
 returns-in_err-value c =
     let x = c.number-item.result in
-    let e = next_entry (λ z. z) c.args.numbers.now c.loop-number.number-index x c.loop-number-test.true c.number-item.is in
+    let e = next_entry (λ z. z) c.args.numbers.now c.loop-number.number-index x c.loop-number-test.true
+    c.number-item.is in
     let p = err_from_is_err_and c.from_residual.result c.from_residual.ensures.1 in
-    rw (p.1, p.2) (λ n. ends (λ i. at_most c.args.most) c.in_err-value.field-0.0 c.loop-number.found.items c.loop-number.number-index _ x _ (entries_from (λ i. at_most c.args.most) 0 c.args.numbers.now) e (sym c.in_err-value.ensures) c.loop-number.invariant)
+    rw (p.1, p.2) (λ n. ends (λ i. at_most c.args.most) c.in_err-value.field-0.0 c.loop-number.found.items
+    c.loop-number.number-index _ x _ (entries_from (λ i. at_most c.args.most) 0 c.args.numbers.now) e
+    (sym c.in_err-value.ensures) c.loop-number.invariant)
 
 pub loop-number-preserved : goal.loop-number-preserved
 loop-number-preserved c =
     let x = c.number-item.result in
-    let e = next_entry (λ z. z) c.args.numbers.now c.loop-number.number-index x c.loop-number-test.true c.number-item.is in
+    let e = next_entry (λ z. z) c.args.numbers.now c.loop-number.number-index x c.loop-number-test.true
+    c.number-item.is in
     let f : SFits w32 c.in_ok-value.field-0 = search rules in
     let items = simp to_z-of_z at c.in_ok-push.ensures.items in
-    rw items (goes_on (λ i. at_most c.args.most) c.loop-number.found.items c.loop-number.number-index _ x _ c.in_ok-value.field-0 (entries_from (λ i. at_most c.args.most) 0 c.args.numbers.now) e (sym c.in_ok-value.ensures) c.loop-number.invariant)
+    rw items (goes_on (λ i. at_most c.args.most) c.loop-number.found.items c.loop-number.number-index _ x _
+    c.in_ok-value.field-0 (entries_from (λ i. at_most c.args.most) 0 c.args.numbers.now) e
+    (sym c.in_ok-value.ensures) c.loop-number.invariant)
 
 pub returns : goal.returns
-returns c = is_done (λ i. at_most c.args.most) c.loop-number.found.items c.loop-number.number-index _ (entries_from (λ i. at_most c.args.most) 0 c.args.numbers.now) (no_entry (λ z. z) c.args.numbers.now c.loop-number.number-index c.loop-number-test.false) c.loop-number.invariant
+returns c = is_done (λ i. at_most c.args.most) c.loop-number.found.items c.loop-number.number-index _
+    (entries_from (λ i. at_most c.args.most) 0 c.args.numbers.now)
+    (no_entry (λ z. z) c.args.numbers.now c.loop-number.number-index c.loop-number-test.false)
+    c.loop-number.invariant

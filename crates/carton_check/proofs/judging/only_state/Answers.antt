@@ -6,4 +6,5 @@ pub returns-in-Clear : goal.returns-in-Clear
 returns-in-Clear c = holds_alone c.args.carton.now c.args.state.now c.in-Clear.ensures
 
 pub returns-in-Blocked : goal.returns-in-Blocked
-returns-in-Blocked c = blocked_alone c.args.carton.now c.args.state.now c.in-Blocked.a.0 c.in-Blocked.b.0 c.args.slack c.in-Blocked.moment _ c.in-Blocked.ensures record { num = refl; den = refl }
+returns-in-Blocked c = blocked_alone c.args.carton.now c.args.state.now c.in-Blocked.a.0 c.in-Blocked.b.0
+    c.args.slack c.in-Blocked.moment _ c.in-Blocked.ensures record { num = refl; den = refl }

@@ -12,4 +12,5 @@ loop-body-preserved c =
     let i = c.loop-body.body-index in
     let within = c.requires.within i no_body c.loop-body-test.true in
     rw (c.from.ensures, take_more c.args.bodies.now i no_body c.loop-body-test.true)
-    (named_more c.loop-body.chosen (take i c.args.bodies.now) (get_or c.args.bodies.now i no_body) (omega (arith, within)) c.loop-body.invariant)
+    (named_more c.loop-body.chosen (take i c.args.bodies.now) (get_or c.args.bodies.now i no_body)
+    (omega (arith, within)) c.loop-body.invariant)

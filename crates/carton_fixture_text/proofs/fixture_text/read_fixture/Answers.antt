@@ -7,7 +7,8 @@ returns-in_err-read_strictly-clause-one_spelling c = one_spelling c.args.bytes.n
 
 pub returns-clause-keeps_rules : goal.returns-clause-keeps_rules
 returns-clause-keeps_rules c =
-    keeps_rules c.args.bytes.now c.in_ok-read_strictly.field-0 c.told.result c.in_ok-read_strictly.ensures.reads c.told.ensures
+    keeps_rules c.args.bytes.now c.in_ok-read_strictly.field-0 c.told.result
+    c.in_ok-read_strictly.ensures.reads c.told.ensures
 
 pub returns-clause-one_spelling : goal.returns-clause-one_spelling
 returns-clause-one_spelling c = one_spelling c.args.bytes.now

@@ -7,7 +7,9 @@ use Rattle.carton_fold.proofs.entries.entries.Given as goal
 
 abbrev pub invariant-loop-i : goal.invariant-loop-i
 invariant-loop-i g l = record {
-  so_far : (entry : _) → ReadsBy g.F.Fn l.read (length l.list) entry → with_front l.found.items (entries_from entry l.i (map view (drop l.i l.list))) ≡ entries_from entry 0 (map view l.list);
+  so_far : (entry : _) → ReadsBy g.F.Fn l.read (length l.list) entry
+      → with_front l.found.items (entries_from entry l.i (map view (drop l.i l.list)))
+      ≡ entries_from entry 0 (map view l.list);
   count : length l.found.items ≡ l.i;
   within : l.i ≤ length l.list;
 }

@@ -8,4 +8,5 @@ use Rattle.carton_fold.proofs.faces.are_numbers.Goals as goal
 
 pub returns : goal.returns
 returns c =
-    all_from_yields_List (λ v. is_number (view v)) _ _ _ c.all.ensures.ran (YieldsList-from_slice c.args.parts.now (cc)) (λ x b q k. search rules) ∙ sym (list_all-map is_number view c.args.parts.now)
+    all_from_yields_List (λ v. is_number (view v)) _ _ _ c.all.ensures.ran (YieldsList-from_slice
+    c.args.parts.now (cc)) (λ x b q k. search rules) ∙ sym (list_all-map is_number view c.args.parts.now)

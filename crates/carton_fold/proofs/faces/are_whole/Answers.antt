@@ -8,4 +8,5 @@ use Rattle.carton_fold.proofs.faces.are_whole.Goals as goal
 
 pub returns : goal.returns
 returns c =
-    all_from_yields_List (λ v. is_whole (view v)) _ _ _ c.all.ensures.ran (YieldsList-from_slice c.args.parts.now (cc)) (λ x b q k. search rules) ∙ sym (list_all-map is_whole view c.args.parts.now)
+    all_from_yields_List (λ v. is_whole (view v)) _ _ _ c.all.ensures.ran (YieldsList-from_slice
+    c.args.parts.now (cc)) (λ x b q k. search rules) ∙ sym (list_all-map is_whole view c.args.parts.now)

@@ -7,4 +7,6 @@ use Rattle.carton_fold.proofs.values.list_of.Goals as goal
 
 pub returns-in-Some : goal.returns-in-Some
 returns-in-Some c =
-    ap (λ (ds : List Data). Some ds) (ap (map view) c.as_slice.ensures.value ∙ sym (elements-items_of (map view c.in-Some.list.now.items))) ∙ ap (option_map elements) c.in-Some.ensures
+    ap (λ (ds : List Data). Some ds) (ap (map view) c.as_slice.ensures.value
+    ∙ sym (elements-items_of (map view c.in-Some.list.now.items)))
+    ∙ ap (option_map elements) c.in-Some.ensures

@@ -20,19 +20,24 @@ pub turns-requires-clause-frame : goal.turns-requires-clause-frame
 turns-requires-clause-frame c =
     let t = c.args.carton.now in
     let f = c.args.flap.panel.0 in
-    subst (λ n. Contains (path t.joints f) (record { 0 = n })) (sym c.root.ensures) (root_on t f c.requires.carton (flap_in t c.args.guide.now.edge.0 f c.args.flap.place c.requires.carton c.requires.flap))
+    subst (λ n. Contains (path t.joints f) (record { 0 = n })) (sym c.root.ensures)
+    (root_on t f c.requires.carton
+    (flap_in t c.args.guide.now.edge.0 f c.args.flap.place c.requires.carton c.requires.flap))
 
 pub invariant_of-course : goal.invariant_of-course
 invariant_of-course c =
     let t = c.args.carton.now in
     let f = c.args.flap.panel.0 in
-    let on = on_flap t c.args.states.now c.args.guide.now f c.args.flap.place c.requires.guide c.requires.flap in
+    let on = on_flap t c.args.states.now c.args.guide.now f c.args.flap.place c.requires.guide
+    c.requires.flap in
     record {
       few_turns = c.turns.ensures.few;
       are_turns = c.turns.ensures.each;
-      near = subst (All IsNear) (sym c.as_slice.ensures) (λ k d l. near_in (shape_at t f) _ c.keeps_shape.ensures (on k d l));
+      near = subst (All IsNear) (sym c.as_slice.ensures)
+          (λ k d l. near_in (shape_at t f) _ c.keeps_shape.ensures (on k d l));
       moves = c.window_move.ensures.motion;
-      in_plan = let w = c.requires.window.upto in let m = c.requires.guide.moves in let few = c.requires.states.few in omega (arith, w, m, few, c.from.ensures);
+      in_plan = let w = c.requires.window.upto in let m = c.requires.guide.moves in
+          let few = c.requires.states.few in omega (arith, w, m, few, c.from.ensures);
     }
 
 pub returns-clause-held : goal.returns-clause-held
@@ -43,10 +48,14 @@ returns-clause-held c = λ e s r m n d mo.
     let guide = c.args.guide.now in
     let lt = flap_in t guide.edge.0 f c.args.flap.place c.requires.carton c.requires.flap in
     let on = on_flap t c.args.states.now guide f c.args.flap.place c.requires.guide c.requires.flap in
-    let turns : c.turns.result.now ≡ turns_between t f t.root = c.turns.ensures.turns ∙ ap (turns_up t.joints f) c.root.ensures ∙ sym (to_world t f c.requires.carton lt) in
-    let told = subst (λ i. IsSomeIn c.window_move.result c.turns.result.now c.as_slice.result.now h.stroke h.bodies.now h.chosen.now i n d) c.from.ensures (c.loose_moment.ensures.held e n d mo) in
-    held_by_probe t (banded_folds c.args.end guide.band c.args.flap.place s r n d) f h.stroke h.bodies.now h.chosen.now c.args.step n d c.window_move.result c.turns.result.now c.as_slice.result.now
-    (c.window_move.ensures.folds s r m n d) turns (subst (All (IsOnPanel t f)) (sym c.as_slice.ensures) on) told
+    let turns : c.turns.result.now ≡ turns_between t f t.root = c.turns.ensures.turns
+    ∙ ap (turns_up t.joints f) c.root.ensures ∙ sym (to_world t f c.requires.carton lt) in
+    let told = subst (λ i. IsSomeIn c.window_move.result c.turns.result.now c.as_slice.result.now h.stroke
+    h.bodies.now h.chosen.now i n d) c.from.ensures (c.loose_moment.ensures.held e n d mo) in
+    held_by_probe t (banded_folds c.args.end guide.band c.args.flap.place s r n d) f h.stroke h.bodies.now
+    h.chosen.now c.args.step n d c.window_move.result c.turns.result.now c.as_slice.result.now
+    (c.window_move.ensures.folds s r m n d) turns (subst (All (IsOnPanel t f)) (sym c.as_slice.ensures) on)
+    told
 
 pub returns-clause-loose : goal.returns-clause-loose
 returns-clause-loose c =
@@ -57,7 +66,8 @@ returns-clause-loose c =
     let states = c.args.states.now in
     let i = c.args.step in
     let lt = flap_in t guide.edge.0 f c.args.flap.place c.requires.carton c.requires.flap in
-    let turns : c.turns.result.now ≡ turns_between t f t.root = c.turns.ensures.turns ∙ ap (turns_up t.joints f) c.root.ensures ∙ sym (to_world t f c.requires.carton lt) in
+    let turns : c.turns.result.now ≡ turns_between t f t.root = c.turns.ensures.turns
+    ∙ ap (turns_up t.joints f) c.root.ensures ∙ sym (to_world t f c.requires.carton lt) in
     let w = c.requires.window.upto in
     let m = c.requires.guide.moves in
     let from = element states i (omega (arith, w, m)) in
@@ -68,10 +78,16 @@ returns-clause-loose c =
       to.0,
       is,
       at_halved moment _ _ (λ n d none.
-          let there = subst (λ i. AreNoneDeep c.window_move.result c.turns.result.now c.as_slice.result.now (pos h.slack) h.stroke h.bodies.now h.chosen.now i n d) c.from.ensures none in
-          subst (λ ps. AreLoose t (banded_folds c.args.end guide.band c.args.flap.place from.0 to.0 n d) f ps (pos h.slack) h.stroke h.bodies.now h.chosen.now i n d) c.as_slice.ensures
-          (loose_by_probes t (banded_folds c.args.end guide.band c.args.flap.place from.0 to.0 n d) f (pos h.slack) h.stroke h.bodies.now h.chosen.now i n d c.window_move.result c.turns.result.now c.as_slice.result.now (c.window_move.ensures.folds from.0 to.0 is n d) turns there)) told,
+          let there = subst (λ i. AreNoneDeep c.window_move.result c.turns.result.now c.as_slice.result.now
+          (pos h.slack) h.stroke h.bodies.now h.chosen.now i n d) c.from.ensures none in
+          subst (λ ps. AreLoose t (banded_folds c.args.end guide.band c.args.flap.place from.0 to.0 n d) f ps
+          (pos h.slack) h.stroke h.bodies.now h.chosen.now i n d) c.as_slice.ensures
+          (loose_by_probes t (banded_folds c.args.end guide.band c.args.flap.place from.0 to.0 n d) f
+          (pos h.slack) h.stroke h.bodies.now h.chosen.now i n d c.window_move.result c.turns.result.now
+          c.as_slice.result.now (c.window_move.ensures.folds from.0 to.0 is n d) turns there)) told,
     )) c.loose_moment.ensures.loose
 
 pub window_move-requires-clause-band : goal.window_move-requires-clause-band
-window_move-requires-clause-band c = in_band c.args.carton.now c.args.states.now c.args.guide.now c.args.flap.panel.0 c.args.flap.place c.requires.guide c.requires.flap
+window_move-requires-clause-band c =
+    in_band c.args.carton.now c.args.states.now c.args.guide.now c.args.flap.panel.0 c.args.flap.place
+    c.requires.guide c.requires.flap

@@ -8,9 +8,12 @@ returns-clause-value c =
     let u : SFits w8 c.args.face.now.u = search rules in
     let v : SFits w8 c.args.face.now.v = search rules in
     let s : SFits w8 c.args.face.now.s = search rules in
-    let a : SFits w32 (get_or c.args.stroke 0 (pos 0)) = omega (arith, ints, c.requires 0 (pos 0) (omega arith)) in
-    let b : SFits w32 (get_or c.args.stroke 1 (pos 0)) = omega (arith, ints, c.requires 1 (pos 0) (omega arith)) in
-    let d : SFits w32 (get_or c.args.stroke 2 (pos 0)) = omega (arith, ints, c.requires 2 (pos 0) (omega arith)) in
+    let a : SFits w32 (get_or c.args.stroke 0 (pos 0)) =
+    omega (arith, ints, c.requires 0 (pos 0) (omega arith)) in
+    let b : SFits w32 (get_or c.args.stroke 1 (pos 0)) =
+    omega (arith, ints, c.requires 1 (pos 0) (omega arith)) in
+    let d : SFits w32 (get_or c.args.stroke 2 (pos 0)) =
+    omega (arith, ints, c.requires 2 (pos 0) (omega arith)) in
     let f1 : SFits w128 c.from.result = search rules in
     let f2 : SFits w128 c.from-2.result = search rules in
     let f3 : SFits w128 c.from-3.result = search rules in

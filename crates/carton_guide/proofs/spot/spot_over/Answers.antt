@@ -22,9 +22,12 @@ returns-clause-at g c = λ n d m ip.
     let law = g.met.E.Enclose.enclosed in
     record {
       positive = h.positive;
-      x = rw (c.bounds_of.ensures.low, c.bounds_of.ensures.high) (law c.place-at.result.x _ d q.x (unsigned_abs q.w) own some h.point.0);
-      y = rw (c.bounds_of-2.ensures.low, c.bounds_of-2.ensures.high) (law c.place-at.result.y _ d q.y (unsigned_abs q.w) own some h.point.1);
-      z = rw (c.bounds_of-3.ensures.low, c.bounds_of-3.ensures.high) (law c.place-at.result.z _ d q.z (unsigned_abs q.w) own some h.point.2);
+      x = rw (c.bounds_of.ensures.low, c.bounds_of.ensures.high)
+          (law c.place-at.result.x _ d q.x (unsigned_abs q.w) own some h.point.0);
+      y = rw (c.bounds_of-2.ensures.low, c.bounds_of-2.ensures.high)
+          (law c.place-at.result.y _ d q.y (unsigned_abs q.w) own some h.point.1);
+      z = rw (c.bounds_of-3.ensures.low, c.bounds_of-3.ensures.high)
+          (law c.place-at.result.z _ d q.z (unsigned_abs q.w) own some h.point.2);
     }
 
 pub returns-clause-small : goal.returns-clause-small
@@ -48,7 +51,9 @@ returns-clause-narrow g c = λ e.
     let sz = law c.place-at.result.z in
     let grid = c.args.motion.now.from.grid in
     let least = (grid_bounds grid c.args.motion.now.from.on_grid).0 in
-    let few = few_units _ grid c.args.piece.depth e least (c.place-at.ensures.spread 4 (changes_few c.args.motion.now c.args.turns.now c.requires.motion c.requires.turns)) in
+    let few = few_units _ grid c.args.piece.depth e least
+    (c.place-at.ensures.spread 4 (changes_few c.args.motion.now c.args.turns.now c.requires.motion
+    c.requires.turns)) in
     record {
       x = rw (c.bounds_of.ensures.low, c.bounds_of.ensures.high) (omega (arith, ints, sx, few));
       y = rw (c.bounds_of-2.ensures.low, c.bounds_of-2.ensures.high) (omega (arith, ints, sy, few));

@@ -1,12 +1,8 @@
-use Rattle.carton_halfturn.proofs.Following.{sine_leads, gentle_rate, modest_rate}
+use Rattle.carton_halfturn.proofs.Following.{sine_leads}
 use Rattle.carton_halfturn.proofs.slopes.sin_slope.Goals as goal
 
 pub returns-clause-leads : goal.returns-clause-leads
-returns-clause-leads c = sine_leads c.args.f c.first_fold.result c.last_fold.result c.sin_at.result c.sin_at-2.result c.rates.result
-    record { from = c.first_fold.ensures.num; from_den = c.first_fold.ensures.den; to = c.last_fold.ensures.num; to_den = c.last_fold.ensures.den } c.sin_at.ensures.rounded c.sin_at-2.ensures.rounded c.rates.ensures.rate
-
-pub returns-clause-spread : goal.returns-clause-spread
-returns-clause-spread c = gentle_rate c.args.f c.sin_at.result c.sin_at-2.result c.rates.result c.sin_at.ensures.tight c.sin_at-2.ensures.tight c.rates.ensures.rate
-
-pub returns-clause-modest : goal.returns-clause-modest
-returns-clause-modest c = modest_rate c.args.f c.sin_at.result c.sin_at-2.result c.rates.result c.sin_at.ensures.tight c.sin_at-2.ensures.tight c.rates.ensures.rate
+returns-clause-leads c =
+    let e = c.ends_of-ends.result in
+    sine_leads c.args.f e.first e.last c.sin_at.result c.sin_at-2.result c.rates.result
+    c.ends_of-ends.ensures c.sin_at.ensures c.sin_at-2.ensures c.rates.ensures.rate

@@ -7,4 +7,6 @@ use Rattle.carton_lines.proofs.cutting.words.Goals as goal
 pub returns : goal.returns
 returns c =
     let ok : List (List ℕ) → Result (List (List ℕ)) Fault = λ ws. Ok ws in
-    ap ok (sym (map_from_collect {E = Fault} (Ok c.in_ok-found.found) c.in_ok-found.ensures.ran (YieldsList-from_slice_split _ (λ b. nat_eq b 32) c.args.line.now c.split.ensures.rest c.split.ensures.done c.split.ensures.closure (λ x b q k. search rules))))
+    ap ok (sym (map_from_collect {E = Fault} (Ok c.in_ok-found.found) c.in_ok-found.ensures.ran
+    (YieldsList-from_slice_split _ (λ b. nat_eq b 32) c.args.line.now c.split.ensures.rest
+    c.split.ensures.done c.split.ensures.closure (λ x b q k. search rules))))

@@ -26,4 +26,5 @@ pub returns : goal.returns
 returns g c =
     let each = step g.D.LineText.grammar c.args.way in
     let total = read_lines each Before 0 (lines_of c.args.bytes.now) in
-    is_done each c.loop-piece.reading c.loop-piece.number _ total c.in-None.ensures.steps.0 c.loop-piece.invariant
+    is_done each c.loop-piece.reading c.loop-piece.number _ total c.in-None.ensures.steps.0
+    c.loop-piece.invariant

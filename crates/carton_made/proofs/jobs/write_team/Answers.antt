@@ -8,5 +8,6 @@ loop-edge-preserved c =
     let i = c.loop-edge.edge-counter in
     record {
       from = omega (arith, c.loop-edge.invariant.from);
-      wrote = one_crease member c.args.first i (string_bytes c.args.text.now) (string_bytes c.loop-edge.text) _ c.loop-edge.invariant.from c.loop-edge.invariant.wrote c.in_ok-write.ensures.bytes;
+      wrote = one_crease member c.args.first i (string_bytes c.args.text.now) (string_bytes c.loop-edge.text)
+          _ c.loop-edge.invariant.from c.loop-edge.invariant.wrote c.in_ok-write.ensures.bytes;
     }

@@ -1,4 +1,4 @@
-use Rattle.std.proofs.Common.{◌≡◌, ◌≤◌, ◌-◌, ◌++◌, map, string_bytes}
+use Rattle.std.proofs.Common.{◌≡◌, ◌-◌, ◌++◌, map, string_bytes}
 use Rattle.std.specs.List.{range_with_len}
 use Rattle.std.specs.Fmt.{decimal}
 use Rattle.carton_made.specs.Drawings.{across}
@@ -6,7 +6,7 @@ use Rattle.carton_made.specs.Made.{listed, following}
 use Rattle.carton_made.proofs.rows.write_across.Given as goal
 
 abbrev pub invariant-loop-vertex : goal.invariant-loop-vertex
-invariant-loop-vertex l = record {
-  from : 0 ≤ l.vertex-counter;
-  wrote : string_bytes l.text ≡ string_bytes l.initial.text ++ following (listed decimal) (map (across l.panels) (range_with_len 0 (l.vertex-counter - 0)));
-}
+invariant-loop-vertex l =
+    string_bytes l.text
+    ≡ string_bytes l.initial.text
+    ++ following (listed decimal) (map (across l.panels) (range_with_len 0 (l.vertex-counter - 0)))

@@ -1,4 +1,4 @@
-use Rattle.std.proofs.Common.{◌+◌, ◌++◌, ◌∷◌, List, ℕ, ap, sym, ◌∙◌, string_bytes, arith}
+use Rattle.std.proofs.Common.{◌+◌, sym, string_bytes, arith}
 use Rattle.std.specs.Fmt.{decimal}
 use Rattle.carton_made.specs.Drawings.{along}
 use Rattle.carton_made.specs.Made.{listed}
@@ -8,8 +8,6 @@ use Rattle.carton_made.proofs.rows.write_along.Goals as goal
 pub loop-vertex-preserved : goal.loop-vertex-preserved
 loop-vertex-preserved c =
     let i = c.loop-vertex.vertex-counter in
-    let text = string_bytes c.loop-vertex.text in
-    record {
-      from = omega (arith, c.loop-vertex.invariant.from);
-      wrote = one_more (listed decimal) (along) (c.args.first) i (string_bytes c.args.text.now) text _ c.loop-vertex.invariant.from c.loop-vertex.invariant.wrote (c.in_ok-write.ensures.bytes ∙ ap (λ (bs : List ℕ). text ++ 44 ∷ bs) (sym (two_text i (i + 1))));
-    }
+    one_more (listed decimal) along c.args.first i
+    (string_bytes c.args.text.now) _ _ _ (omega arith) c.loop-vertex.invariant c.in_ok-write.ensures.bytes
+    (sym (two_text i (i + 1)))

@@ -1,4 +1,4 @@
-use Rattle.std.proofs.Common.{◌+◌, ◌++◌, ◌∷◌, List, ℕ, ap, sym, ◌∙◌, string_bytes, arith}
+use Rattle.std.proofs.Common.{◌+◌, sym, string_bytes, arith}
 use Rattle.std.specs.Fmt.{decimal}
 use Rattle.carton_made.specs.Drawings.{row_face}
 use Rattle.carton_made.specs.Made.{listed}
@@ -8,8 +8,6 @@ use Rattle.carton_made.proofs.rows.write_more_faces.Goals as goal
 pub loop-panel-preserved : goal.loop-panel-preserved
 loop-panel-preserved c =
     let i = c.loop-panel.panel-counter in
-    let text = string_bytes c.loop-panel.text in
-    record {
-      from = omega (arith, c.loop-panel.invariant.from);
-      wrote = one_more (listed decimal) (row_face c.args.panels) (1) i (string_bytes c.args.text.now) text _ c.loop-panel.invariant.from c.loop-panel.invariant.wrote (c.in_ok-write.ensures.bytes ∙ ap (λ (bs : List ℕ). text ++ 44 ∷ bs) (sym (four_text i (i + 1) (c.args.panels + 2 + i) (c.args.panels + 1 + i))));
-    }
+    one_more (listed decimal) (row_face c.args.panels) 1 i
+    (string_bytes c.args.text.now) _ _ _ (omega arith) c.loop-panel.invariant c.in_ok-write.ensures.bytes
+    (sym (four_text i (i + 1) (c.args.panels + 2 + i) (c.args.panels + 1 + i)))

@@ -4,4 +4,7 @@ use Rattle.carton_made.proofs.TrayLists.{edges_text}
 use Rattle.carton_made.proofs.trays.write_edges.Goals as goal
 
 pub returns : goal.returns
-returns c = at_ok _ _ c.push_str.result (λ e. e ∙ ap (λ (bs : List ℕ). string_bytes c.args.text.now ++ bs) (sym edges_text)) c.push_str.ensures.bytes
+returns c =
+    at_ok _ _ c.push_str.result
+    (λ e. e ∙ ap (λ (bs : List ℕ). string_bytes c.args.text.now ++ bs) (sym edges_text))
+    c.push_str.ensures.bytes

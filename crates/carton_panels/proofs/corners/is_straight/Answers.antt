@@ -14,8 +14,10 @@ returns c = λ d.
     let s : Side = get_or (sides_of ps) c.previous_in_round.result e in
     let f : SFits w128 c.leftness.result = search rules in
     let next = get_or ps c.next_in_round.result origin in
-    let last = step_at ps c.args.k c.next_in_round.result e origin c.requires c.next_in_round.ensures.inner c.next_in_round.ensures.last in
-    let bend = bend_at ps c.args.k c.previous_in_round.result d e c.requires c.previous_in_round.ensures.later c.previous_in_round.ensures.first in
+    let last = step_at ps c.args.k c.next_in_round.result e origin c.requires c.next_in_round.ensures.inner
+    c.next_in_round.ensures.last in
+    let bend = bend_at ps c.args.k c.previous_in_round.result d e c.requires c.previous_in_round.ensures.later
+    c.previous_in_round.ensures.first in
     same_zero_test c.leftness.result f
     ∙ ap (λ n. int_eq n (pos 0)) (c.leftness.ensures e)
     ∙ ap (λ (t : Side). int_eq (leftness s t.to.x t.to.y (pos 1)) (pos 0)) (sym last)

@@ -6,4 +6,7 @@ use Rattle.carton_panels.proofs.Bends.{corners_before}
 use Rattle.carton_panels.proofs.corners.true_corners.Given as goal
 
 abbrev pub invariant-loop-k : goal.invariant-loop-k
-invariant-loop-k l = record { corners : map place_of l.corners.items ≡ corners_before l.face.places.now l.k; whole : All (λ (t : Triple). t.w ≡ pos 1) l.corners.items }
+invariant-loop-k l = record {
+  corners : map place_of l.corners.items ≡ corners_before l.face.places.now l.k;
+  whole : All (λ (t : Triple). t.w ≡ pos 1) l.corners.items;
+}

@@ -7,7 +7,8 @@ pub returns-then-has_side : goal.returns-then-has_side
 returns-then-has_side c =
     let d : Ends = record { p = 0; q = 0 } in
     same_test c.is_first.ensures
-    (λ n. side_from_tests c.args.edges.now c.args.vertices.now c.args.k d c.requires (at_yes c.if-has_side.true c.has_side.ensures) n)
+    (λ n. side_from_tests c.args.edges.now c.args.vertices.now c.args.k d c.requires
+    (at_yes c.if-has_side.true c.has_side.ensures) n)
     (λ s. (tests_from_side c.args.edges.now c.args.vertices.now c.args.k d c.requires s).1)
 
 pub returns-else-has_side : goal.returns-else-has_side

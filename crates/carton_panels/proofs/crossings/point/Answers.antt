@@ -17,5 +17,13 @@ returns-then-w-lt0 c =
     let ny : SFits w128 (pos 0 -ℤ c.args.y) = omega (arith, ints) in
     let nw : SFits w128 (pos 0 -ℤ c.args.w) = omega (arith, ints) in
     let t = c.triple-then-w-lt0.result in
-    let h : HasParts t (pos 0 -ℤ c.args.x) (pos 0 -ℤ c.args.y) (pos 0 -ℤ c.args.w) = simp to_z-of_z at c.triple-then-w-lt0.ensures.parts in
-    (c.triple-then-w-lt0.ensures.small, inr (record { x_part = h.x_part ∙ negative c.args.x; y_part = h.y_part ∙ negative c.args.y; w_part = h.w_part ∙ negative c.args.w }))
+    let h : HasParts t (pos 0 -ℤ c.args.x) (pos 0 -ℤ c.args.y) (pos 0 -ℤ c.args.w) =
+    simp to_z-of_z at c.triple-then-w-lt0.ensures.parts in (
+      c.triple-then-w-lt0.ensures.small,
+      inr
+          (record {
+            x_part = h.x_part ∙ negative c.args.x;
+            y_part = h.y_part ∙ negative c.args.y;
+            w_part = h.w_part ∙ negative c.args.w;
+          }),
+    )

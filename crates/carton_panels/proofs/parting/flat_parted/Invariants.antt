@@ -5,4 +5,5 @@ use Rattle.carton_panels.proofs.Parted.{CornersParted}
 use Rattle.carton_panels.proofs.parting.flat_parted.Given as goal
 
 abbrev pub invariant-loop-direction : goal.invariant-loop-direction
-invariant-loop-direction l = NoneBelow (λ (d : List ℤ). CornersParted (part d 0) (part d 1) l.first l.second) directions l.direction-index
+invariant-loop-direction l = NoneBelow (λ (d : List ℤ). CornersParted (part d 0) (part d 1) l.first l.second)
+    directions l.direction-index

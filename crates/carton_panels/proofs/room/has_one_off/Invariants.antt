@@ -6,4 +6,7 @@ use Rattle.carton_base.proofs.Loops.{NoneBelow}
 use Rattle.carton_panels.proofs.room.has_one_off.Given as goal
 
 abbrev pub invariant-loop-t : goal.invariant-loop-t
-invariant-loop-t l = (d : Side) → NoneBelow (λ (t : Triple). pos 0 <ℤ inset l.face.margin (get_or (sides_of l.face.places.now) l.k d) t.x t.y t.w) l.found l.t-index
+invariant-loop-t l =
+    (d : Side)
+    → NoneBelow (λ (t : Triple). pos 0
+    <ℤ inset l.face.margin (get_or (sides_of l.face.places.now) l.k d) t.x t.y t.w) l.found l.t-index

@@ -12,15 +12,25 @@ pub returns-then-not-has_one_off-clause-none : goal.returns-then-not-has_one_off
 returns-then-not-has_one_off-clause-none c = λ e.
     let sides = sides_of c.args.face.places.now in
     let k = c.loop-k.k in
-    let here : c.loop-k.k < length (sides_of c.args.face.places.now) = omega (arith, length-around c.args.face.places.now) in
-    let off : Side → Type 0 = λ s. Any (λ (t : Triple). pos 0 <ℤ inset c.args.face.margin s t.x t.y t.w) c.args.found.now in
+    let here : c.loop-k.k < length (sides_of c.args.face.places.now) =
+    omega (arith, length-around c.args.face.places.now) in
+    let off : Side
+    → Type 0 =
+    λ s. Any (λ (t : Triple). pos 0 <ℤ inset c.args.face.margin s t.x t.y t.w) c.args.found.now in
     let d : Side = record { from = origin; to = origin } in
-    any_read (λ (s : Side). ¬ (off s)) sides c.loop-k.k d here (λ h. at_no c.if-not-has_one_off.true c.has_one_off.ensures (λ g. subst off (get_or_default sides c.loop-k.k d g here) h))
+    any_read (λ (s : Side). ¬ (off s)) sides c.loop-k.k d here
+    (λ h. at_no c.if-not-has_one_off.true c.has_one_off.ensures
+    (λ g. subst off (get_or_default sides c.loop-k.k d g here) h))
 
 pub loop-k-preserved : goal.loop-k-preserved
-loop-k-preserved c = below_more_all (λ (s : Side). Any (λ (t : Triple). pos 0 <ℤ inset c.args.face.margin s t.x t.y t.w) c.args.found.now) (sides_of c.args.face.places.now) c.loop-k.k (at_yes c.if-not-has_one_off.false c.has_one_off.ensures) c.loop-k.invariant
+loop-k-preserved c =
+    below_more_all (λ (s : Side). Any (λ (t : Triple). pos 0 <ℤ inset c.args.face.margin s t.x t.y t.w)
+    c.args.found.now) (sides_of c.args.face.places.now) c.loop-k.k
+    (at_yes c.if-not-has_one_off.false c.has_one_off.ensures) c.loop-k.invariant
 
 pub returns-clause-room : goal.returns-clause-room
 returns-clause-room c = λ e.
-    let end' : length (sides_of c.args.face.places.now) ≤ c.loop-k.k = omega (arith, length-around c.args.face.places.now) in
-    all_end (λ (s : Side). Any (λ (t : Triple). pos 0 <ℤ inset c.args.face.margin s t.x t.y t.w) c.args.found.now) (sides_of c.args.face.places.now) c.loop-k.k end' c.loop-k.invariant
+    let end' : length (sides_of c.args.face.places.now) ≤ c.loop-k.k =
+    omega (arith, length-around c.args.face.places.now) in
+    all_end (λ (s : Side). Any (λ (t : Triple). pos 0 <ℤ inset c.args.face.margin s t.x t.y t.w)
+    c.args.found.now) (sides_of c.args.face.places.now) c.loop-k.k end' c.loop-k.invariant

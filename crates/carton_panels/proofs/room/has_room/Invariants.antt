@@ -7,4 +7,6 @@ use Rattle.carton_base.proofs.Loops.{AllBelow}
 use Rattle.carton_panels.proofs.room.has_room.Given as goal
 
 abbrev pub invariant-loop-k : goal.invariant-loop-k
-invariant-loop-k l = AllBelow (λ (s : Side). Any (λ (t : Triple). pos 0 <ℤ inset l.face.margin s t.x t.y t.w) l.found) (sides_of l.face.places.now) l.k
+invariant-loop-k l =
+    AllBelow (λ (s : Side). Any (λ (t : Triple). pos 0 <ℤ inset l.face.margin s t.x t.y t.w) l.found)
+    (sides_of l.face.places.now) l.k

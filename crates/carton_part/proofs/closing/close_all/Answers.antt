@@ -9,10 +9,11 @@ loop-f-preserved g c =
     let Tells = TellAsMuch c.args.carton.now c.args.low.now c.args.high.now c.args.rows.now in
     elim c.if-f-root.branch [
       | then-f-root w ↦
-          let now = w.close_served-then-f-root.ensures in (
+          let now = w.close_in-then-f-root.ensures in (
             subst Known (sym w.known-is) now.known,
             subst IsTable (sym w.rows-is) now.table,
-            subst Tells (sym w.rows-is) (λ motion m was. now.rows motion m (c.loop-f.invariant.2 motion m was)),
+            subst Tells (sym w.rows-is)
+                (λ motion m was. now.rows motion m (c.loop-f.invariant.2 motion m was)),
           )
       | else-f-root w ↦ (
         subst Known (sym w.known-is) c.loop-f.invariant.0,

@@ -8,4 +8,5 @@ pub close_all-requires-clause-table : goal.close_all-requires-clause-table
 close_all-requires-clause-table g c = rows_table _ _ _ c.requires.pairs
 
 pub walk_rows-requires-clause-rows : goal.walk_rows-requires-clause-rows
-walk_rows-requires-clause-rows g c = c.close_all.ensures.rows c.args.motion.now (between_ends c.args.motion.now) c.requires.pairs
+walk_rows-requires-clause-rows g c =
+    c.close_all.ensures.rows c.args.motion.now (between_ends c.args.motion.now) c.requires.pairs

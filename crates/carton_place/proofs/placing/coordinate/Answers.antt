@@ -13,7 +13,8 @@ returns-clause-rounded c =
     simp to_z-of_z at c.fraction.ensures
 
 pub returns-clause-size : goal.returns-clause-size
-returns-clause-size c = rounded_size _ _ _ _ (omega (arith, ints, c.requires.positive)) c.requires.near (returns-clause-rounded c)
+returns-clause-size c = rounded_size _ _ _ _ (omega (arith, ints, c.requires.positive)) c.requires.near
+    (returns-clause-rounded c)
 
 pub returns-clause-spread : goal.returns-clause-spread
 returns-clause-spread c = rounded_spread _ _ _ _ c.fraction.result.ordered (returns-clause-rounded c)

@@ -10,11 +10,18 @@ pub loop-i-preserved : goal.loop-i-preserved
 loop-i-preserved c =
     let i = c.loop-i.i in
     let turns = c.args.turns.now in
-    let l : i < length c.loop-i.swings = omega (arith, c.loop-i.invariant.0, c.loop-i-test.true, c.requires.count) in
-    let here : (t : Turn) → IsSwingOver c.args.motion.now (get_or turns i t).place c.args.piece.index c.args.piece.depth c.swing_over.result =
-    λ t. subst (λ u. IsSwingOver c.args.motion.now u.place c.args.piece.index c.args.piece.depth c.swing_over.result) (c.index-turns-i.is ∙ get_or_default turns i c.index-turns-i.result t c.loop-i-test.true) c.swing_over.ensures in (
+    let l : i < length c.loop-i.swings =
+    omega (arith, c.loop-i.invariant.0, c.loop-i-test.true, c.requires.count) in
+    let here : (t : Turn)
+    → IsSwingOver c.args.motion.now (get_or turns i t).place c.args.piece.index c.args.piece.depth
+    c.swing_over.result =
+    λ t. subst (λ u. IsSwingOver c.args.motion.now u.place c.args.piece.index c.args.piece.depth
+    c.swing_over.result) (c.index-turns-i.is
+    ∙ get_or_default turns i c.index-turns-i.result t c.loop-i-test.true) c.swing_over.ensures in (
       length-set c.loop-i.swings i c.swing_over.result ∙ c.loop-i.invariant.0,
-      one_more_set (λ k (s : Swing). (t : Turn) → IsSwingOver c.args.motion.now (get_or turns k t).place c.args.piece.index c.args.piece.depth s) c.loop-i.swings i c.swing_over.result l here c.loop-i.invariant.1,
+      one_more_set (λ k (s : Swing). (t : Turn)
+          → IsSwingOver c.args.motion.now (get_or turns k t).place c.args.piece.index c.args.piece.depth s)
+          c.loop-i.swings i c.swing_over.result l here c.loop-i.invariant.1,
     )
 
 pub returns-clause-swings : goal.returns-clause-swings

@@ -10,7 +10,8 @@ doubled : (k n : ℕ) → n + 1 ≡ k → 2 ^ k ≡ 2 * 2 ^ n
 doubled k n e = let p = pow-add 2 n 1 in ap (λ m. 2 ^ m) (sym e) ∙ omega (arith, p)
 
 pub returns-in_default-clause-holds : goal.returns-in_default-clause-holds
-returns-in_default-clause-holds g t c = λ n d angles q m h k. none_left g.E.Enclose.holds c.args.turns.now c.args.p n d angles q c.in_default.ensures.cases k
+returns-in_default-clause-holds g t c = λ n d angles q m h k. none_left g.E.Enclose.holds c.args.turns.now
+    c.args.p n d angles q c.in_default.ensures.cases k
 
 pub turn_once-requires-clause-turn : goal.turn_once-requires-clause-turn
 turn_once-requires-clause-turn g t c = all_first IsTurn _ _ _ c.in-Some.ensures.cases.0 c.requires.turns
@@ -24,7 +25,8 @@ turn_through-requires g t c κs within = (
       all_rest IsTurn _ _ _ c.in-Some.ensures.cases.0 c.requires.turns,
       (
         omega (arith, c.in-Some.ensures.cases.1, c.in-Some-split_first.ensures.cases.1, c.requires.one_each),
-        room_left _ _ _ _ _ _ (doubled _ _ c.in-Some.ensures.cases.1) c.turn_once.ensures.size c.requires.room,
+        room_left _ _ _ _ _ _ (doubled _ _ c.in-Some.ensures.cases.1) c.turn_once.ensures.size
+            c.requires.room,
       ),
     ),
   ),
@@ -32,14 +34,18 @@ turn_through-requires g t c κs within = (
 
 pub returns-clause-holds : goal.returns-clause-holds
 returns-clause-holds g t c = λ n d angles q m h k.
-    held_on g.E.Enclose.holds _ _ c.in-Some.turn.now _ _ c.in-Some-split_first.swing.now c.turn_once.result _ n d angles q c.in-Some.ensures.cases.0 c.in-Some-split_first.ensures.cases.0 h
+    held_on g.E.Enclose.holds _ _ c.in-Some.turn.now _ _ c.in-Some-split_first.swing.now c.turn_once.result _
+    n d angles q c.in-Some.ensures.cases.0 c.in-Some-split_first.ensures.cases.0 h
     (λ a f. c.turn_once.ensures.holds n d a q m f k) (λ bs s f. c.turn_through.ensures.holds n d bs s m f)
 
 pub returns-clause-size : goal.returns-clause-size
-returns-clause-size g t c = size_on _ _ _ _ _ _ (doubled _ _ c.in-Some.ensures.cases.1) c.turn_once.ensures.size c.turn_through.ensures.size
+returns-clause-size g t c =
+    size_on _ _ _ _ _ _ (doubled _ _ c.in-Some.ensures.cases.1) c.turn_once.ensures.size
+    c.turn_through.ensures.size
 
 pub returns-clause-spread : goal.returns-clause-spread
 returns-clause-spread g t c = λ e h.
     let first = all_first (IsSwingWithin e) _ _ _ c.in-Some-split_first.ensures.cases.0 h in
     let rest = all_rest (IsSwingWithin e) _ _ _ c.in-Some-split_first.ensures.cases.0 h in
-    spread_on _ _ _ _ _ _ _ _ e c.in-Some.ensures.cases.1 (doubled _ _ c.in-Some.ensures.cases.1) (c.turn_once.ensures.spread e first) c.requires.room (c.turn_through.ensures.spread e rest)
+    spread_on _ _ _ _ _ _ _ _ e c.in-Some.ensures.cases.1 (doubled _ _ c.in-Some.ensures.cases.1)
+    (c.turn_once.ensures.spread e first) c.requires.room (c.turn_through.ensures.spread e rest)

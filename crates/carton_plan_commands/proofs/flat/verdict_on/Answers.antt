@@ -11,7 +11,8 @@ use Rattle.carton_plan_commands.proofs.flat.verdict_on.Goals as goal
 
 pub returns-in-Ok : goal.returns-in-Ok
 returns-in-Ok c = (
-  subst (λ n. ArePanels c.args.margin c.args.raw.now n) c.in-Ok.ensures.whole (are_panels c.args.margin c.args.raw.now c.in-Ok.shapes.items c.in-Ok.ensures.shapes),
+  subst (λ n. ArePanels c.args.margin c.args.raw.now n) c.in-Ok.ensures.whole
+      (are_panels c.args.margin c.args.raw.now c.in-Ok.shapes.items c.in-Ok.ensures.shapes),
   c.judge.ensures,
 )
 
@@ -20,6 +21,7 @@ returns-in-Err c =
     let m = c.args.margin in
     let d = c.args.raw.now in
     let e = c.in-Err.e in
-    subst (IsOutcome (verdicts m d)) (sym c.accept.ensures) (accepts Dieline panel_rule (IsJudged m d) (err_of FlatVerdict e) (λ wanted.
+    subst (IsOutcome (verdicts m d)) (sym c.accept.ensures)
+    (accepts Dieline panel_rule (IsJudged m d) (err_of FlatVerdict e) (λ wanted.
     let first = c.in-Err.ensures.refused wanted in
     (first.0, first.1, first.2, first.3, wanted)))

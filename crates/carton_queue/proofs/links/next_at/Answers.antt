@@ -1,7 +1,8 @@
 use Rattle.std.proofs.Common.{◌∙◌, ap}
 use Rattle.carton_queue.specs.declared.links.Link.{Link}
-use Rattle.carton_queue.proofs.Places.{next_get}
+use Rattle.carton_queue.proofs.Places.{part_get}
 use Rattle.carton_queue.proofs.links.next_at.Goals as goal
 
 pub returns : goal.returns
-returns c = ap (λ (x : Link). x.next) (c.at.ensures c.at.result) ∙ next_get c.args.links.now c.args.at c.at.result c.requires
+returns c = ap (λ (x : Link). x.next) (c.at.ensures c.at.result)
+    ∙ part_get (λ x. x.next) c.args.links.now c.args.at c.at.result c.requires

@@ -1,7 +1,7 @@
 use Rattle.std.proofs.Common.{◌∙◌, List, ap, sym, subst}
 use Rattle.carton_queue.specs.declared.links.Link.{Link}
 use Rattle.carton_queue.specs.Linked.{next_of, previous_of, IsSet}
-use Rattle.carton_queue.proofs.Places.{next_here, next_rest, previous_kept, previous_get}
+use Rattle.carton_queue.proofs.Places.{part_here, part_rest, part_kept, part_get}
 use Rattle.carton_queue.proofs.links.set_next.Goals as goal
 
 pub returns-clause-next : goal.returns-clause-next
@@ -9,11 +9,16 @@ returns-clause-next c =
     let xs = c.args.links.now in
     let x : Link = record { next = c.args.to; previous = c.at-link.result.previous } in
     subst (λ (ys : List Link). IsSet (next_of xs) (next_of ys) c.args.at c.args.to) (sym c.set.ensures)
-    (record { here = next_here xs c.args.at x c.requires; rest = λ i o. next_rest xs c.args.at x i o })
+    (record {
+      here = part_here (λ x. x.next) xs c.args.at x c.requires;
+      rest = λ i o. part_rest (λ x. x.next) xs c.args.at x i o;
+    })
 
 pub returns-clause-previous : goal.returns-clause-previous
 returns-clause-previous c i =
     let xs = c.args.links.now in
     let x : Link = record { next = c.args.to; previous = c.at-link.result.previous } in
     ap (λ (ys : List Link). previous_of ys i) c.set.ensures
-    ∙ previous_kept xs c.args.at x c.requires (ap (λ (y : Link). y.previous) (c.at-link.ensures c.at-link.result) ∙ previous_get xs c.args.at c.at-link.result c.requires) i
+    ∙ part_kept (λ x. x.previous) xs c.args.at x c.requires
+    (ap (λ (y : Link). y.previous) (c.at-link.ensures c.at-link.result)
+    ∙ part_get (λ x. x.previous) xs c.args.at c.at-link.result c.requires) i

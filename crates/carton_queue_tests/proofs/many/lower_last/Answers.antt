@@ -19,6 +19,11 @@ loop-node-preserved c =
     elim c.if-node.branch [
       | then-node w ↦ (
           let e = w.queue-is ∙ w.lower.ensures in
-          record { nodes = nodes_stay q c.if-node.queue n _ e ∙ c.loop-node.invariant.nodes; waiting = all_stay q c.if-node.queue NODES n 0 l e c.loop-node.invariant.waiting })
-      | else-node w ↦ (subst (λ (s : Waiting). record { nodes : nodes_of s ≡ NODES; waiting : AllWait NODES s }) (sym w.queue-is) c.loop-node.invariant)
+          record {
+            nodes = nodes_stay q c.if-node.queue n _ e ∙ c.loop-node.invariant.nodes;
+            waiting = all_stay q c.if-node.queue NODES n 0 l e c.loop-node.invariant.waiting;
+          })
+      | else-node w ↦
+          (subst (λ (s : Waiting). record { nodes : nodes_of s ≡ NODES; waiting : AllWait NODES s })
+          (sym w.queue-is) c.loop-node.invariant)
     ]

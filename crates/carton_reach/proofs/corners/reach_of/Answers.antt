@@ -12,8 +12,22 @@ returns g c = λ at v is.
     let along : HoldsAlong g.E.Enclose.holds at v c.low-low.result c.high-high.result =
     λ n d x y z w m p h.
     let held = is.held n d x y z w m p h in
-    record { from = c.low-low.ensures.below n d _ w m p held; upto = c.high-high.ensures.above n d _ w m p held } in
-    let narrow : (c.high-high.result -ℤ c.low-low.result) ≤ℤ pos (g.E.Enclose.spread at.x + g.E.Enclose.spread at.y + g.E.Enclose.spread at.z) = omega (arith, ints, c.low-low.ensures.value, c.high-high.ensures.value, g.met.E.Enclose.apart c.args.along, is.narrow) in
+    record {
+      from = c.low-low.ensures.below n d _ w m p held;
+      upto = c.high-high.ensures.above n d _ w m p held;
+    } in
+    let narrow : (c.high-high.result -ℤ c.low-low.result)
+    ≤ℤ pos (g.E.Enclose.spread at.x + g.E.Enclose.spread at.y + g.E.Enclose.spread at.z) =
+    omega (
+      arith,
+      ints,
+      c.low-low.ensures.value,
+      c.high-high.ensures.value,
+      g.met.E.Enclose.apart
+          c.args.along,
+      is.narrow,
+    ) in
     let low = to_z-of_z w128 c.low-low.result lf in
     let high = to_z-of_z w128 c.high-high.result hf in
-    one_reach g.E.Enclose.holds g.E.Enclose.spread at v c.low-low.result c.high-high.result _ low high low high along narrow
+    one_reach g.E.Enclose.holds g.E.Enclose.spread at v c.low-low.result c.high-high.result _ low high low
+    high along narrow

@@ -8,4 +8,6 @@ use Rattle.carton_reach.specs.Ranges.{IsMotionBetween}
 use Rattle.carton_reach.proofs.ranges.swings_between.Given as goal
 
 abbrev pub invariant-loop-i : goal.invariant-loop-i
-invariant-loop-i l = (length l.swings ≡ LONGEST_PATH) × ((k : ℕ) (s : Swing) → k < l.i → (t : Turn) (motion : Motion) → IsMotionBetween l.low l.high motion → FollowsMove (get_or l.swings k s) motion (get_or l.turns k t).place 0 0)
+invariant-loop-i l = (length l.swings ≡ LONGEST_PATH)
+    × ((k : ℕ) (s : Swing) → k < l.i → (t : Turn) (motion : Motion) → IsMotionBetween l.low l.high motion
+    → FollowsMove (get_or l.swings k s) motion (get_or l.turns k t).place 0 0)

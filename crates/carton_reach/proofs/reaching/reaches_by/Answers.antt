@@ -18,10 +18,22 @@ returns g c = λ a d l.
     let swings = c.swings_over-swings.result in
     let index = c.args.piece.index in
     let depth = c.args.piece.depth in
-    let enough : length turns ≤ length swings = omega (arith, c.swings_over-swings.ensures.length, c.requires.count, length-take c.args.route.now.count c.args.route.now.turns) in
+    let enough : length turns ≤ length swings =
+    omega (
+      arith,
+      c.swings_over-swings.ensures.length,
+      c.requires.count,
+      length-take
+          c.args.route.now.count c.args.route.now.turns,
+    ) in
     let spots = spots_after motion turns corners in
-    subst (λ n. IsReach spots 0 n index depth (axis_at a) (get_or c.reaches_from.result.axes a d)) (starts_long corners c.starts_of.result.now c.starts_of.ensures.starts) (c.reaches_from.ensures spots index depth record {
+    subst (λ n. IsReach spots 0 n index depth (axis_at a) (get_or c.reaches_from.result.axes a d))
+    (starts_long corners c.starts_of.result.now c.starts_of.ensures.starts)
+    (c.reaches_from.ensures spots index depth record {
       positive = after_positive motion turns corners;
-      turned = turned motion turns swings corners c.starts_of.result.now index depth c.starts_of.ensures.starts enough (λ k s t l. (c.swings_over-swings.ensures.swings k s t l).follows);
-      close = narrow motion turns swings index depth c.requires.motion c.requires.turns enough c.swings_over-swings.ensures.swings;
+      turned = turned motion turns swings corners c.starts_of.result.now index depth
+          c.starts_of.ensures.starts enough
+          (λ k s t l. (c.swings_over-swings.ensures.swings k s t l).follows);
+      close = narrow motion turns swings index depth c.requires.motion c.requires.turns enough
+          c.swings_over-swings.ensures.swings;
     } a d l)

@@ -6,5 +6,7 @@ use Rattle.carton_report.proofs.reporting.clearances.Goals as goal
 
 pub rows-requires-clause-moves : goal.rows-requires-clause-moves
 rows-requires-clause-moves c =
-    let holds = subst (λ answer. IsChecked c.args.carton.now c.args.task.now c.args.plan.now answer) c.in-Holds.is c.check-answer.ensures.checked in
-    subst AreMoves (sym c.as_slice.ensures) (moves_of c.args.task.now c.args.plan.now c.requires.task c.requires.plan holds.0)
+    let holds = subst (λ answer. IsChecked c.args.carton.now c.args.task.now c.args.plan.now answer)
+    c.in-Holds.is c.check-answer.ensures.checked in
+    subst AreMoves (sym c.as_slice.ensures)
+    (moves_of c.args.task.now c.args.plan.now c.requires.task c.requires.plan holds.0)

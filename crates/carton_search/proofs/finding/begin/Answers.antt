@@ -12,6 +12,9 @@ returns c = λ carton.
     let e : Entry = record { state = task.start; parent = 0; moves = 0; tried = false } in
     let number = c.in_ok-number.number in
     let none = c.requires.blank.entries in
-    let added : c.add.new.self ≡ record k { entries = e ∷ [] } = c.in_ok-number.ensures.added ∙ ap (λ (es : List Entry). record k { entries = es ++ e ∷ [] }) none in
-    subst (λ (m : Knowledge). Going task carton m 0 0) (sym (c.put.ensures ∙ ap (λ (m : Knowledge). with_priority m number c.estimate.result) added))
-    (started task carton c.requires.rules k c.requires.blank e refl refl refl number c.estimate.result (c.in_ok-number.ensures.number ∙ ap length none) c.estimate.ensures.value)
+    let added : c.add.new.self ≡ record k { entries = e ∷ [] } = c.in_ok-number.ensures.added
+    ∙ ap (λ (es : List Entry). record k { entries = es ++ e ∷ [] }) none in
+    subst (λ (m : Knowledge). Going task carton m 0 0)
+    (sym (c.put.ensures ∙ ap (λ (m : Knowledge). with_priority m number c.estimate.result) added))
+    (started task carton c.requires.rules k c.requires.blank e refl refl refl number c.estimate.result
+    (c.in_ok-number.ensures.number ∙ ap length none) c.estimate.ensures.value)

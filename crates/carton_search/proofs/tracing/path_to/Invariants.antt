@@ -8,7 +8,8 @@ use Rattle.carton_search.proofs.tracing.path_to.Given as goal
 abbrev pub invariant-loop-entry : goal.invariant-loop-entry
 invariant-loop-entry l = record {
   there : (i : ℕ) × (slice_get l.known.entries i ≡ Some l.entry);
-  behind : (s : State) (end : Entry) → IsTree (IsParent l.known.entries) s l.known.entries → slice_get l.known.entries l.fn.number ≡ Some end → Behind l.known.entries end l.entry l.path.items;
+  behind : (s : State) (end : Entry) → IsTree (IsParent l.known.entries) s l.known.entries
+      → slice_get l.known.entries l.fn.number ≡ Some end → Behind l.known.entries end l.entry l.path.items;
 }
 
 abbrev pub decreases-loop-entry : goal.decreases-loop-entry

@@ -1,4 +1,5 @@
-use Rattle.std.proofs.Common.{◌≡◌, ◌+◌, ◌<◌, ◌≤◌, ℕ, false, length, inl, inr, refl, ap, sym, ◌∙◌, subst, arith}
+use Rattle.std.proofs.Common.{◌≡◌, ◌+◌, ◌<◌, ◌≤◌, ℕ, false, length, inl, inr, refl, ap, sym, ◌∙◌, subst}
+use Rattle.std.proofs.Common.{arith}
 use Rattle.std.proofs.Math.ListN.{set}
 use Rattle.carton_queue.specs.Waits.{nodes_of, priority_of}
 use Rattle.carton_steps.specs.Estimates.{estimate_of}
@@ -15,7 +16,9 @@ returns-then-old-clause-trying g c =
     let es = c.args.known.now.entries in
     let p = c.requires.there in
     let is = same_get es c.args.number c.args.number p.0 c.entry-old.result refl p.1 c.entry-old.ensures in
-    pass_known c.args.task.now (g.J.Judge.carton c.args.judge.now) c.requires.suits.rules c.args.known.now turn.number turn.entry turn.count turn.step c.requires.trying c.requires.less c.args.to.now c.requires.to c.args.number c.entry-old.result c.entry-old.ensures
+    pass_known c.args.task.now (g.J.Judge.carton c.args.judge.now) c.requires.suits.rules c.args.known.now
+    turn.number turn.entry turn.count turn.step c.requires.trying c.requires.less c.args.to.now
+    c.requires.to c.args.number c.entry-old.result c.entry-old.ensures
     (sym (ap (λ (z : Entry). z.state) is) ∙ p.2) (inl c.if-old.true)
 
 pub returns-then-old-turn-clause-trying : goal.returns-then-old-turn-clause-trying
@@ -24,7 +27,9 @@ returns-then-old-turn-clause-trying g c =
     let es = c.args.known.now.entries in
     let p = c.requires.there in
     let is = same_get es c.args.number c.args.number p.0 c.entry-old.result refl p.1 c.entry-old.ensures in
-    pass_known c.args.task.now (g.J.Judge.carton c.args.judge.now) c.requires.suits.rules c.args.known.now turn.number turn.entry turn.count turn.step c.requires.trying c.requires.less c.args.to.now c.requires.to c.args.number c.entry-old.result c.entry-old.ensures
+    pass_known c.args.task.now (g.J.Judge.carton c.args.judge.now) c.requires.suits.rules c.args.known.now
+    turn.number turn.entry turn.count turn.step c.requires.trying c.requires.less c.args.to.now
+    c.requires.to c.args.number c.entry-old.result c.entry-old.ensures
     (sym (ap (λ (z : Entry). z.state) is) ∙ p.2) (inr c.if-old-turn.true)
 
 pub write-requires : goal.write-requires
@@ -35,16 +40,22 @@ write-requires g c =
 pub overflow_add-old : goal.overflow_add-old
 overflow_add-old g c =
     let turn = c.args.turn.now in
-    let l : c.entry-old.result.moves ≤ 4096 = short c.args.task.now (g.J.Judge.carton c.args.judge.now) c.requires.suits.rules c.args.known.now turn.number turn.entry turn.count turn.step c.requires.trying c.requires.less c.args.number c.entry-old.result c.entry-old.ensures in
+    let l : c.entry-old.result.moves ≤ 4096 =
+    short c.args.task.now (g.J.Judge.carton c.args.judge.now) c.requires.suits.rules c.args.known.now
+    turn.number turn.entry turn.count turn.step c.requires.trying c.requires.less c.args.number
+    c.entry-old.result c.entry-old.ensures in
     omega (arith, l, c.estimate-left.ensures.capped)
 
 pub lower-requires-clause-room : goal.lower-requires-clause-room
 lower-requires-clause-room g c =
     let turn = c.args.turn.now in
     let k = c.args.known.now in
-    let w : nodes_of c.write.new.self.waiting ≡ nodes_of k.waiting = ap (λ (m : Knowledge). nodes_of m.waiting) c.write.ensures in
-    let l : c.args.number < length k.entries = get_within k.entries c.args.number c.entry-old.result c.entry-old.ensures in
-    let r = room_left c.args.task.now (g.J.Judge.carton c.args.judge.now) c.requires.suits.rules k turn.number turn.entry turn.count turn.step c.requires.trying c.requires.less in
+    let w : nodes_of c.write.new.self.waiting ≡ nodes_of k.waiting =
+    ap (λ (m : Knowledge). nodes_of m.waiting) c.write.ensures in
+    let l : c.args.number < length k.entries =
+    get_within k.entries c.args.number c.entry-old.result c.entry-old.ensures in
+    let r = room_left c.args.task.now (g.J.Judge.carton c.args.judge.now) c.requires.suits.rules k turn.number
+    turn.entry turn.count turn.step c.requires.trying c.requires.less in
     omega (arith, w, l, r)
 
 pub lower-requires-clause-waits : goal.lower-requires-clause-waits
@@ -54,7 +65,9 @@ lower-requires-clause-waits g c =
     let p = c.requires.there in
     let is = same_get es c.args.number c.args.number p.0 c.entry-old.result refl p.1 c.entry-old.ensures in
     ap (λ (m : Knowledge). priority_of m.waiting c.args.number) c.write.ensures
-    ∙ waits c.args.task.now (g.J.Judge.carton c.args.judge.now) c.requires.suits.rules c.args.known.now turn.number turn.entry turn.count turn.step c.requires.trying c.requires.less c.args.to.now c.requires.to c.args.number c.entry-old.result c.entry-old.ensures
+    ∙ waits c.args.task.now (g.J.Judge.carton c.args.judge.now) c.requires.suits.rules c.args.known.now
+    turn.number turn.entry turn.count turn.step c.requires.trying c.requires.less c.args.to.now
+    c.requires.to c.args.number c.entry-old.result c.entry-old.ensures
     (sym (ap (λ (z : Entry). z.state) is) ∙ p.2) c.if-old.false
     ∙ ap (λ (n : ℕ). queued_at (c.entry-old.result.moves + n)) (sym c.estimate-left.ensures.value)
 
@@ -67,10 +80,21 @@ returns-clause-trying g c =
     let number = c.args.number in
     let there = c.requires.there in
     let same = same_get k.entries number number there.0 c.entry-old.result refl there.1 c.entry-old.ensures in
-    let next : Entry = record { state = c.args.to.now; parent = turn.number; moves = turn.entry.moves + 1; tried = false } in
+    let next : Entry = record {
+      state = c.args.to.now;
+      parent = turn.number;
+      moves = turn.entry.moves + 1;
+      tried = false;
+    } in
     let p = c.next_entry-entry.result.moves + c.estimate-left.result in
-    let is : p ≡ turn.entry.moves + 1 + estimate_of task c.args.to.now = (λ j. (ap (λ (e : Entry). e.moves) c.next_entry-entry.ensures) j + c.estimate-left.ensures.value j) in
-    let written : c.write.new.self ≡ record k { entries = set k.entries number next } = c.write.ensures ∙ ap (λ (e : Entry). record k { entries = set k.entries number e }) c.next_entry-entry.ensures in
-    subst (λ (m : Knowledge). Trying task carton m turn.number turn.entry turn.count (turn.step + 1)) (sym (c.lower.ensures ∙ ap (λ (m : Knowledge). with_priority m number p) written))
-    (put_again task carton c.requires.suits.rules k turn.number turn.entry turn.count turn.step c.requires.trying c.requires.less c.args.to.now c.requires.to number c.entry-old.result c.entry-old.ensures
-    (sym (ap (λ (z : Entry). z.state) same) ∙ there.2) c.if-old.false (omega (arith, c.if-old-turn.false)) c.if-not-is_clear.ensures.clear p is)
+    let is : p ≡ turn.entry.moves + 1 + estimate_of task c.args.to.now =
+    (λ j. (ap (λ (e : Entry). e.moves) c.next_entry-entry.ensures) j + c.estimate-left.ensures.value j) in
+    let written : c.write.new.self ≡ record k { entries = set k.entries number next } = c.write.ensures
+    ∙ ap (λ (e : Entry). record k { entries = set k.entries number e }) c.next_entry-entry.ensures in
+    subst (λ (m : Knowledge). Trying task carton m turn.number turn.entry turn.count (turn.step + 1))
+    (sym (c.lower.ensures ∙ ap (λ (m : Knowledge). with_priority m number p) written))
+    (put_again task carton c.requires.suits.rules k turn.number turn.entry turn.count turn.step
+    c.requires.trying c.requires.less c.args.to.now c.requires.to number c.entry-old.result
+    c.entry-old.ensures
+    (sym (ap (λ (z : Entry). z.state) same) ∙ there.2) c.if-old.false (omega (arith, c.if-old-turn.false))
+    c.if-not-is_clear.ensures.clear p is)

@@ -1,66 +1,55 @@
-use Rattle.std.proofs.Common.{Ok, Err, refl}
-use Rattle.std.proofs.lemmas.Result.{err_from_is_err_and}
+use Rattle.std.proofs.Common.{Err, refl}
 use Rattle.carton_setup.specs.Outcomes.{gives}
-use Rattle.carton_setup.specs.Setups.{dielines, jobs, cartons, tasks}
+use Rattle.carton_setup.specs.Setups.{dielines, jobs, cartons, tasks, setups}
 use Rattle.carton_setup.specs.declared.setup.Setup.{Setup}
 use Rattle.carton_text.specs.declared.task.Task.{Task}
 use Rattle.carton_setup.proofs.OneSetup.{after_dieline, after_job, after_carton}
-use Rattle.carton_setup.proofs.Outcomes.{stops, goes_on}
+use Rattle.carton_setup.proofs.Outcomes.{stops, goes_on, passed_up, came}
 use Rattle.carton_setup.proofs.setup.set_up.Goals as goal
-
-pub returns-in_err-raw-clause-sets_up : goal.returns-in_err-raw-clause-sets_up
-returns-in_err-raw-clause-sets_up c =
-    let p = err_from_is_err_and c.from_residual.result c.from_residual.ensures.1 in
-    let files = c.args.files.now in
-    rw (p.1, p.2) (stops (dielines files) (after_dieline files) c.in_err-raw.field-0.0 c.in_err-raw.ensures.reads)
 
 pub returns-in_err-job-clause-sets_up : goal.returns-in_err-job-clause-sets_up
 returns-in_err-job-clause-sets_up c =
-    let p = err_from_is_err_and c.from_residual-in_err-job.result c.from_residual-in_err-job.ensures.1 in
     let files = c.args.files.now in
     let d = c.in_ok-raw.raw in
-    let d_is = c.in_ok-raw.ensures.reads in
-    rw (p.1, p.2) (goes_on (dielines files) (after_dieline files) d (Err c.in_err-job.field-0.0) d_is
-    (stops (jobs files) (after_job d) c.in_err-job.field-0.0 c.in_err-job.ensures.reads))
+    let e = c.in_err-job.field-0.0 in
+    passed_up (setups files) e _ c.from_residual-in_err-job.ensures.1
+    (goes_on (dielines files) (after_dieline files) d (Err e) c.in_ok-raw.ensures.reads
+    (stops (jobs files) (after_job d) e c.in_err-job.ensures.reads))
 
 pub returns-in_err-carton-clause-sets_up : goal.returns-in_err-carton-clause-sets_up
 returns-in_err-carton-clause-sets_up c =
-    let p = err_from_is_err_and c.from_residual-in_err-carton.result c.from_residual-in_err-carton.ensures.1 in
-    let files = c.args.files.now in
     let d = c.in_ok-raw.raw in
-    let d_is = c.in_ok-raw.ensures.reads in
     let j = c.in_ok-job.job in
-    let j_is = c.in_ok-job.ensures.reads in
-    rw (p.1, p.2) (goes_on (dielines files) (after_dieline files) d (Err c.in_err-carton.field-0.0) d_is (
-    goes_on (jobs files) (after_job d) j (Err c.in_err-carton.field-0.0) j_is
-    (stops (cartons d j) (after_carton d j) c.in_err-carton.field-0.0 c.in_err-carton.ensures.hangs)))
+    let e = c.in_err-carton.field-0.0 in
+    let after_both = goes_on (jobs c.args.files.now) (after_job d) j (Err e) c.in_ok-job.ensures.reads
+    (stops (cartons d j) (after_carton d j) e c.in_err-carton.ensures.hangs) in
+    passed_up (setups c.args.files.now) e _ c.from_residual-in_err-carton.ensures.1
+    (goes_on (dielines c.args.files.now) (after_dieline c.args.files.now) d (Err e) c.in_ok-raw.ensures.reads
+    after_both)
 
 pub returns-in_err-task-clause-sets_up : goal.returns-in_err-task-clause-sets_up
 returns-in_err-task-clause-sets_up c =
-    let p = err_from_is_err_and c.from_residual-in_err-task.result c.from_residual-in_err-task.ensures.1 in
     let files = c.args.files.now in
     let d = c.in_ok-raw.raw in
-    let d_is = c.in_ok-raw.ensures.reads in
     let j = c.in_ok-job.job in
-    let j_is = c.in_ok-job.ensures.reads in
     let t = c.in_ok-carton.carton in
-    let t_is = c.in_ok-carton.ensures.hangs in
     let e = c.in_err-task.field-0.0 in
-    let given = λ (task : Task). gives {A = Setup} (record { carton = t; task = task }) in
-    rw (p.1, p.2) (goes_on (dielines files) (after_dieline files) d (Err e) d_is (goes_on (jobs files) (after_job d) j (Err e) j_is (
-    goes_on (cartons d j) (after_carton d j) t (Err e) t_is (stops (tasks t d j) given e c.in_err-task.ensures.fits))))
+    let unfit = stops (tasks t d j) (λ (task : Task). gives {A = Setup} (record { carton = t; task = task }))
+    e c.in_err-task.ensures.fits in
+    let after_both = goes_on (jobs files) (after_job d) j (Err e) c.in_ok-job.ensures.reads
+    (goes_on (cartons d j) (after_carton d j) t (Err e) c.in_ok-carton.ensures.hangs unfit) in
+    passed_up (setups files) e _ c.from_residual-in_err-task.ensures.1
+    (goes_on (dielines files) (after_dieline files) d (Err e) c.in_ok-raw.ensures.reads after_both)
 
 pub returns-clause-sets_up : goal.returns-clause-sets_up
 returns-clause-sets_up c =
     let files = c.args.files.now in
     let d = c.in_ok-raw.raw in
-    let d_is = c.in_ok-raw.ensures.reads in
     let j = c.in_ok-job.job in
-    let j_is = c.in_ok-job.ensures.reads in
     let t = c.in_ok-carton.carton in
-    let t_is = c.in_ok-carton.ensures.hangs in
-    let task = c.in_ok-task.task in
-    let made : Setup = record { carton = t; task = task } in
+    let made : Setup = record { carton = t; task = c.in_ok-task.task } in
     let given = λ (task : Task). gives {A = Setup} (record { carton = t; task = task }) in
-    goes_on (dielines files) (after_dieline files) d (Ok made) d_is (goes_on (jobs files) (after_job d) j (Ok made) j_is (
-    goes_on (cartons d j) (after_carton d j) t (Ok made) t_is (goes_on (tasks t d j) given task (Ok made) c.in_ok-task.ensures.fits refl)))
+    goes_on (dielines files) (after_dieline files) d (came made) c.in_ok-raw.ensures.reads
+    (goes_on (jobs files) (after_job d) j (came made) c.in_ok-job.ensures.reads (
+    goes_on (cartons d j) (after_carton d j) t (came made) c.in_ok-carton.ensures.hangs
+    (goes_on (tasks t d j) given c.in_ok-task.task (came made) c.in_ok-task.ensures.fits refl)))

@@ -17,13 +17,17 @@ returns-clause-fits c =
     let t = c.args.carton.now in
     let d = c.args.raw.now in
     let j = c.args.job.now in
-    subst (IsOutcome (tasks t d j)) (sym c.accept.ensures) (reads_so Job fit_rule Memory outline (task_for t d j) c.job_for.result c.job_for.ensures.fits)
+    subst (IsOutcome (tasks t d j)) (sym c.accept.ensures)
+    (reads_so Job fit_rule Memory outline (task_for t d j) c.job_for.result c.job_for.ensures.fits)
 
 pub returns-clause-keeps_rules : goal.returns-clause-keeps_rules
-returns-clause-keeps_rules c = subst (λ r. IfOk r IsTask) (sym c.accept.ensures) (kept Job fit_rule IsTask c.job_for.result c.job_for.ensures.keeps_rules)
+returns-clause-keeps_rules c =
+    subst (λ r. IfOk r IsTask) (sym c.accept.ensures)
+    (kept Job fit_rule IsTask c.job_for.result c.job_for.ensures.keeps_rules)
 
 pub returns-clause-creases : goal.returns-clause-creases
 returns-clause-creases c =
     let t = c.args.carton.now in
     let same = fitted_creases t c.args.raw.now c.args.job.now c.job_for.result c.job_for.ensures.fits in
-    subst (λ r. IfOk r (λ (task : Task). task.creases ≡ t.creases)) (sym c.accept.ensures) (kept Job fit_rule (λ (task : Task). task.creases ≡ t.creases) c.job_for.result same)
+    subst (λ r. IfOk r (λ (task : Task). task.creases ≡ t.creases)) (sym c.accept.ensures)
+    (kept Job fit_rule (λ (task : Task). task.creases ≡ t.creases) c.job_for.result same)

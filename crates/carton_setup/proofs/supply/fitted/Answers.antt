@@ -14,7 +14,8 @@ returns-in-Ok-clause-fits c =
     let p = c.args.plan in
     let k = c.args.catalogue in
     let all : Supply = record { setup = s; plan = p; catalogue = k } in
-    goes_on (results {X = Unit {0}} Catalogue guides_rule (IsFit s.carton s.task p k)) (λ fits. gives all) (tt {0}) (came all) c.in-Ok.ensures refl
+    goes_on (results {X = Unit {0}} Catalogue guides_rule (IsFit s.carton s.task p k)) (λ fits. gives all)
+    (tt {0}) (came all) c.in-Ok.ensures refl
 
 pub returns-in-Err-clause-fits : goal.returns-in-Err-clause-fits
 returns-in-Err-clause-fits c =
@@ -23,4 +24,5 @@ returns-in-Err-clause-fits c =
     let k = c.args.catalogue in
     let all : Supply = record { setup = s; plan = p; catalogue = k } in
     subst (IsOutcome (fitted_of s p k)) (sym c.accept.ensures)
-    (refused_on {X = Unit {0}} Catalogue guides_rule (IsFit s.carton s.task p k) (λ fits. gives all) c.in-Err.e c.in-Err.ensures)
+    (refused_on {X = Unit {0}} Catalogue guides_rule (IsFit s.carton s.task p k) (λ fits. gives all)
+    c.in-Err.e c.in-Err.ensures)

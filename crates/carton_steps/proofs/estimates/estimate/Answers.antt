@@ -8,5 +8,7 @@ pub steps_left-requires-clause-members : goal.steps_left-requires-clause-members
 steps_left-requires-clause-members c =
     let t = c.args.task.now in
     let is : c.team-item.result ≡ get_or t.teams c.loop-team.team-index c.team-item.result = cc in
-    let lt = subst (λ (teams : List Team). c.loop-team.team-index < length teams) c.as_slice-team-items.ensures c.loop-team-test.true in
-    subst (λ (x : Team). All (λ k. k < MOST_JOINTS) x.places) (sym is) (each_has_places t c.requires c.loop-team.team-index c.team-item.result lt)
+    let lt = subst (λ (teams : List Team). c.loop-team.team-index < length teams)
+    c.as_slice-team-items.ensures c.loop-team-test.true in
+    subst (λ (x : Team). All (λ k. k < MOST_JOINTS) x.places) (sym is)
+    (each_has_places t c.requires c.loop-team.team-index c.team-item.result lt)

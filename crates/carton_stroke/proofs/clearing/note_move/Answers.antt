@@ -15,12 +15,21 @@ loop-k-preserved c =
     let new = c.loop-k.notes in
     let h = c.loop-k.invariant in
     let lt : k < length new = omega (arith, h.count, c.requires.notes, c.loop-k-test.true) in
-    one_more_changed (λ j before after. (b : Cuboid) (states : List State) → IsMove states c.args.step c.args.motion.now.from c.args.motion.now.to → IsNoteBefore t states c.args.stroke c.args.slack c.args.step (get_or bodies j b) before
-    → IsNoteBefore t states c.args.stroke c.args.slack (c.args.step + 1) (get_or bodies j b) after) c.args.notes.now new k c.note_after.result lt
-    (λ d b states is before. after_move t states c.args.stroke c.args.slack c.args.step bodies c.args.notes.now new k c.note_after.result _ c.index-notes-k.result b d c.loop-k-test.true lt (h.rest k d (omega arith)) c.index-notes-k.is (c.note_after.ensures states is) before)
+    one_more_changed (λ j before after. (b : Cuboid) (states : List State)
+    → IsMove states c.args.step c.args.motion.now.from c.args.motion.now.to
+    → IsNoteBefore t states c.args.stroke c.args.slack c.args.step (get_or bodies j b) before
+    → IsNoteBefore t states c.args.stroke c.args.slack (c.args.step + 1) (get_or bodies j b) after)
+    c.args.notes.now new k c.note_after.result lt
+    (λ d b states is before. after_move t states c.args.stroke c.args.slack c.args.step bodies
+    c.args.notes.now new k c.note_after.result _ c.index-notes-k.result b d c.loop-k-test.true lt
+    (h.rest k d (omega arith)) c.index-notes-k.is (c.note_after.ensures states is) before)
     h
 
 pub returns : goal.returns
 returns c = λ states is before.
     let h = c.loop-k.invariant in
-    record { count = h.count ∙ before.count; each = λ k b m lt. h.changed k m m (omega (arith, lt, c.loop-k-test.false)) b states is (before.each k b m lt) }
+    record {
+      count = h.count ∙ before.count;
+      each = λ k b m lt. h.changed k m m (omega (arith, lt, c.loop-k-test.false)) b states is
+          (before.each k b m lt);
+    }

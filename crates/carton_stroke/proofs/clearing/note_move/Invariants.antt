@@ -7,5 +7,9 @@ use Rattle.carton_stroke.proofs.Passed.{HaveChanged}
 use Rattle.carton_stroke.proofs.clearing.note_move.Given as goal
 
 abbrev pub invariant-loop-k : goal.invariant-loop-k
-invariant-loop-k l = HaveChanged (λ k before after. (b : Cuboid) (states : List State) → IsMove states l.step l.motion.from l.motion.to → IsNoteBefore l.carton states l.stroke l.slack l.step (get_or l.bodies k b) before
-    → IsNoteBefore l.carton states l.stroke l.slack (l.step + 1) (get_or l.bodies k b) after) l.initial.notes l.notes l.k
+invariant-loop-k l =
+    HaveChanged (λ k before after. (b : Cuboid) (states : List State)
+    → IsMove states l.step l.motion.from l.motion.to
+    → IsNoteBefore l.carton states l.stroke l.slack l.step (get_or l.bodies k b) before
+    → IsNoteBefore l.carton states l.stroke l.slack (l.step + 1) (get_or l.bodies k b) after) l.initial.notes
+    l.notes l.k

@@ -9,11 +9,8 @@ use Rattle.carton_stroke.specs.Extents.{IsExtent}
 use Rattle.carton_stroke.proofs.Extended.{extent_along, signs_at}
 use Rattle.carton_stroke.proofs.extent.extents_over.Goals as goal
 
-pub least_along-least-requires : goal.least_along-least-requires
-least_along-least-requires c = subst AreSigns (sym c.axis-v.ensures) (signs_at c.loop-a.a c.loop-a-test.true)
-
-pub greatest_along-greatest-requires : goal.greatest_along-greatest-requires
-greatest_along-greatest-requires c = subst AreSigns (sym c.axis-v.ensures) (signs_at c.loop-a.a c.loop-a-test.true)
+pub ends_along-ends-requires : goal.ends_along-ends-requires
+ends_along-ends-requires c = subst AreSigns (sym c.axis-v.ensures) (signs_at c.loop-a.a c.loop-a-test.true)
 
 pub speed_along-requires : goal.speed_along-requires
 speed_along-requires c = subst AreSigns (sym c.axis-v.ensures) (signs_at c.loop-a.a c.loop-a-test.true)
@@ -25,16 +22,23 @@ loop-a-preserved c =
     let body = c.args.body.now in
     let i = c.args.piece.index in
     let d = c.args.piece.depth in
-    let fl : SFits w128 c.least_along-least.result = search rules in
-    let fg : SFits w128 c.greatest_along-greatest.result = search rules in
+    let ends = c.ends_along-ends.result in
+    let fl : SFits w128 ends.least = search rules in
+    let fg : SFits w128 ends.greatest = search rules in
     let fs : SFits w128 c.speed_along.result = search rules in
     let lt : a < length xs = omega (arith, c.loop-a.invariant.0, c.loop-a-test.true) in
-    let near = c.least_along-least.ensures.value in
-    let far = c.greatest_along-greatest.ensures.value in
+    let near = c.ends_along-ends.ensures.ends.least in
+    let far = c.ends_along-ends.ensures.ends.greatest in
     let speed = c.speed_along.ensures.value in
     let by = simp to_z-of_z at c.extent_by.ensures in
-    let here : IsExtent body i d (axis_at a) c.extent_by.result = extent_along body i d a c.axis-v.result _ _ _ c.span_of-times.result c.extent_by.result c.loop-a-test.true c.axis-v.ensures c.requires.shape c.span_of-times.ensures near far speed c.speed_along.ensures.size by in
-    (length-set xs a c.extent_by.result ∙ c.loop-a.invariant.0, one_more_set (λ k e. IsExtent body i d (axis_at k) e) xs a c.extent_by.result lt here c.loop-a.invariant.1)
+    let here : IsExtent body i d (axis_at a) c.extent_by.result = extent_along body i d a c.axis-v.result _ _
+    _ c.span_of-times.result c.extent_by.result c.loop-a-test.true c.axis-v.ensures c.requires.shape
+    c.span_of-times.ensures near far speed c.speed_along.ensures.size by in (
+      length-set xs a c.extent_by.result
+          ∙ c.loop-a.invariant.0,
+      one_more_set (λ k e. IsExtent body i d (axis_at k) e) xs a c.extent_by.result
+          lt here c.loop-a.invariant.1,
+    )
 
 pub returns : goal.returns
 returns c = λ a d l. c.loop-a.invariant.1 a d (omega (arith, l, c.loop-a-test.false))

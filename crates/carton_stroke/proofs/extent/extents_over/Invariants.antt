@@ -5,4 +5,6 @@ use Rattle.carton_stroke.specs.Extents.{IsExtent}
 use Rattle.carton_stroke.proofs.extent.extents_over.Given as goal
 
 abbrev pub invariant-loop-a : goal.invariant-loop-a
-invariant-loop-a l = (length l.axes ≡ 13) × FirstHave (λ a e. IsExtent l.body l.fn.piece.index l.fn.piece.depth (axis_at a) e) l.axes l.a
+invariant-loop-a l =
+    (length l.axes ≡ 13)
+    × FirstHave (λ a e. IsExtent l.body l.fn.piece.index l.fn.piece.depth (axis_at a) e) l.axes l.a

@@ -6,10 +6,15 @@ use Rattle.carton_stroke.specs.Clear.{IsApartFrom}
 use Rattle.carton_stroke.proofs.Noted.{parted_in_state, touching_in_state}
 use Rattle.carton_stroke.proofs.resting.note_alone.Goals as goal
 
-pub returns-in-Touching : goal.returns-in-Touching
-returns-in-Touching c = touching_in_state c.args.carton.now c.args.state.now c.loop-p.p c.args.slack c.args.body.now _ c.requires.step (omega (arith, c.loop-p-test.true, c.panels-p-end.ensures.count)) (record { num = refl; den = refl }) (c.in-Touching.ensures.touching refl)
+pub returns-in-Bad : goal.returns-in-Bad
+returns-in-Bad c = touching_in_state c.args.carton.now c.args.state.now c.loop-p.p c.args.slack
+    c.args.body.now _ c.requires.step (omega (arith, c.loop-p-test.true, c.panels-p-end.ensures.count))
+    (record { num = refl; den = refl }) (c.in-Bad.ensures.bad refl)
 
 pub loop-p-preserved : goal.loop-p-preserved
 loop-p-preserved c =
     let b = c.args.body.now in
-    below_more (λ (p : ℕ). IsApartFrom c.args.carton.now (fold_in c.args.state.now) p (IsInBody (faces b.shape) b.stroke 0 0 1) (pos 0)) c.loop-p.p c.loop-p.invariant (parted_in_state c.args.carton.now c.args.state.now c.loop-p.p b c.requires.step (c.in-Apart.ensures.apart refl))
+    below_more (λ (p : ℕ). IsApartFrom c.args.carton.now (fold_in c.args.state.now) p
+    (IsInBody (faces b.shape) b.stroke 0 0 1) (pos 0)) c.loop-p.p c.loop-p.invariant
+    (parted_in_state c.args.carton.now c.args.state.now c.loop-p.p b c.requires.step
+    (c.in-Good.ensures.good refl))

@@ -14,5 +14,9 @@ returns c =
     let ff : SFits w128 c.from.result = search rules in
     let den : c.from.result ≡ c.first.result.den = simp to_z-of_z at c.from.ensures in
     let by : IsFloor unit c.from.result q = simp to_z-of_z at c.floor_div.ensures in
-    let floor : IsFloor unit (pos (2 ^ depth)) q = subst (λ z. IsFloor unit z q) (den ∙ c.first.ensures.den) by in
-    simp to_z-of_z (record { value = unit_over depth q c.args.piece.shallow floor; size = length_small depth q c.args.piece.shallow floor })
+    let floor : IsFloor unit (pos (2 ^ depth)) q = subst (λ z. IsFloor unit z q) (den ∙ c.first.ensures.den)
+    by in
+    simp to_z-of_z (record {
+      value = unit_over depth q c.args.piece.shallow floor;
+      size = length_small depth q c.args.piece.shallow floor;
+    })

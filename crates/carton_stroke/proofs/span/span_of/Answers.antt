@@ -26,8 +26,10 @@ returns c =
     let from = simp to_z-of_z at c.time_of.ensures.value in
     let upto = simp to_z-of_z at c.time_of-2.ensures.value in
     simp to_z-of_z (record {
-      from = begins (pos c.args.step) (pos i) p unit c.length_of-length.result c.time_of.result c.length_of-length.ensures.value from;
-      upto = begins (pos c.args.step) (pos (i + 1)) p unit c.length_of-length.result c.time_of-2.result c.length_of-length.ensures.value upto;
+      from = begins (pos c.args.step) (pos i) p unit c.length_of-length.result c.time_of.result
+          c.length_of-length.ensures.value from;
+      upto = begins (pos c.args.step) (pos (i + 1)) p unit c.length_of-length.result c.time_of-2.result
+          c.length_of-length.ensures.value upto;
       early = c.time_of.ensures.size;
       late = c.time_of-2.ensures.size;
     })

@@ -14,6 +14,11 @@ unreachable-requires c =
     omega (arith, far, few, root)
 
 pub returns : goal.returns
-returns c = subst (λ f. IsReachIn c.args.carton.now c.args.motion.now c.args.panel.0 f c.args.piece.index c.args.piece.depth c.in-Some.found) c.root.ensures
-    (subst (λ o. IfSome o (IsReachIn c.args.carton.now c.args.motion.now c.args.panel.0 c.root.result.0 c.args.piece.index c.args.piece.depth)) c.in-Some.is
-    (reach_in c.args.carton.now c.args.motion.now c.args.panel.0 c.root.result.0 c.args.piece.index c.args.piece.depth c.panel.result.now c.reaches.result c.requires.panel c.panel.ensures c.shrunk-corners.ensures.shape c.reaches.ensures.reaches c.reaches.ensures.far))
+returns c =
+    subst (λ f. IsReachIn c.args.carton.now c.args.motion.now c.args.panel.0 f c.args.piece.index
+    c.args.piece.depth c.in-Some.found) c.root.ensures
+    (subst (λ o. IfSome o (IsReachIn c.args.carton.now c.args.motion.now c.args.panel.0 c.root.result.0
+    c.args.piece.index c.args.piece.depth)) c.in-Some.is
+    (reach_in c.args.carton.now c.args.motion.now c.args.panel.0 c.root.result.0 c.args.piece.index
+    c.args.piece.depth c.panel.result.now c.reaches.result c.requires.panel c.panel.ensures
+    c.shrunk-corners.ensures.shape c.reaches.ensures.reaches c.reaches.ensures.far))

@@ -1,4 +1,5 @@
-use Rattle.std.proofs.Common.{◌≡◌, ◌∙◌, ◌+◌, ◌<◌, ◌++◌, ap, sym, List, [], ◌∷◌, length, take, get_or, filter_map, Option, Some, None, refl, arith}
+use Rattle.std.proofs.Common.{◌≡◌, ◌∙◌, ◌+◌, ◌<◌, ◌++◌, ap, sym, List, [], ◌∷◌, length, take, get_or}
+use Rattle.std.proofs.Common.{filter_map, Option, Some, None, refl, arith}
 use Rattle.std.proofs.lemmas.List.{take_more}
 use Rattle.std.proofs.lemmas.List.Elements.{filter_map-append}
 use Rattle.carton_base.specs.declared.ids.EdgeId.{EdgeId}
@@ -18,8 +19,18 @@ loop-panel-preserved c =
     let js : List (Option Joint) = c.args.carton.now.joints in
     let p = c.loop-panel.panel in
     let x : Option Joint = get_or js p None in
-    let lt : p < length js = omega (arith, c.loop-panel-test.true, c.panels-panel-end.ensures.count, c.panels-panel-end.ensures.carton.joints) in
-    let edge : c.locked_edge.result ≡ locked_edge x = c.locked_edge.ensures ∙ ap locked_edge c.joint.ensures in
-    let more : filter_map locked_edge (take (p + 1) js) ≡ filter_map locked_edge (take p js) ++ given (locked_edge x) =
-    ap (λ (os : List (Option Joint)). filter_map locked_edge os) (take_more js p None lt) ∙ filter_map-append locked_edge (take p js) (x ∷ []) ∙ ap (λ (es : List EdgeId). filter_map locked_edge (take p js) ++ es) (one_given x) in
+    let lt : p < length js =
+    omega (
+      arith,
+      c.loop-panel-test.true,
+      c.panels-panel-end.ensures.count,
+      c.panels-panel-end.ensures.carton.joints,
+    ) in
+    let edge : c.locked_edge.result ≡ locked_edge x = c.locked_edge.ensures
+    ∙ ap locked_edge c.joint.ensures in
+    let more : filter_map locked_edge (take (p + 1) js) ≡ filter_map locked_edge (take p js)
+    ++ given (locked_edge x) =
+    ap (λ (os : List (Option Joint)). filter_map locked_edge os) (take_more js p None lt)
+    ∙ filter_map-append locked_edge (take p js) (x ∷ [])
+    ∙ ap (λ (es : List EdgeId). filter_map locked_edge (take p js) ++ es) (one_given x) in
     c.in_ok-add.ensures ∙ (λ i. c.loop-panel.invariant i ++ given (edge i)) ∙ sym more

@@ -7,4 +7,6 @@ pub returns : goal.returns
 returns c =
     let zs = c.args.numbers.now in
     let k = c.loop-place.place - 1 in
-    sym (short_increasing (drop k zs) (omega (arith, length-drop k zs, c.loop-place-test.false, c.loop-place.invariant.0))) ∙ c.loop-place.invariant.1
+    sym (short_increasing (drop k zs)
+    (omega (arith, length-drop k zs, c.loop-place-test.false, c.loop-place.invariant.0)))
+    ∙ c.loop-place.invariant.1

@@ -6,4 +6,7 @@ use Rattle.carton_base.proofs.Entries.{with_front}
 use Rattle.carton_text.proofs.plan_lines.stops.Given as goal
 
 abbrev pub invariant-loop-number : goal.invariant-loop-number
-invariant-loop-number l = with_front l.found.items (entries_from (λ i. at_most (2 * stops_of l.fn.grid)) l.number-index (map (λ z. z) (drop l.number-index l.numbers))) ≡ entries_from (λ i. at_most (2 * stops_of l.fn.grid)) 0 l.numbers
+invariant-loop-number l =
+    with_front l.found.items (entries_from (λ i. at_most (2 * stops_of l.fn.grid)) l.number-index
+    (map (λ z. z) (drop l.number-index l.numbers)))
+    ≡ entries_from (λ i. at_most (2 * stops_of l.fn.grid)) 0 l.numbers

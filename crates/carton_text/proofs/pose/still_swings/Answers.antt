@@ -1,4 +1,5 @@
-use Rattle.std.proofs.Common.{◌≡◌, ◌+◌, ◌*◌, ◌^◌, ◌<◌, length, take, get_or, length-take-le, None, true, pos, refl, sym, subst, arith}
+use Rattle.std.proofs.Common.{◌≡◌, ◌+◌, ◌*◌, ◌^◌, ◌<◌, length, take, get_or, length-take-le, None, true, pos}
+use Rattle.std.proofs.Common.{refl, sym, subst, arith}
 use Rattle.std.proofs.lemmas.List.{get_or-take}
 use Rattle.std.proofs.lemmas.Nat.{pow_pos}
 use Rattle.carton_base.specs.declared.motion.Turn.{Turn}
@@ -17,12 +18,20 @@ returns-clause-holds c =
     let count = length turns in
     let swings = c.swings_over.result in
     let state = c.args.state.now in
-    let whole : length (take count swings) ≡ count = length-take-le count swings (omega (arith, c.swings_over.ensures.length, c.requires.count)) in
-    let angle = λ (t : Turn). angle_of (fold_of (λ k. joint_fold (stop_of state k) (stop_of state k) state.grid 0 1) t.place) in
-    let at_start : 0 + c.whole.result.index * 1 ≡ 0 * 2 ^ c.whole.result.depth = omega (arith, c.whole.ensures.index) in
+    let whole : length (take count swings) ≡ count =
+    length-take-le count swings (omega (arith, c.swings_over.ensures.length, c.requires.count)) in
+    let angle = λ (t : Turn).
+    angle_of (fold_of (λ k. joint_fold (stop_of state k) (stop_of state k) state.grid 0 1) t.place) in
+    let at_start : 0 + c.whole.result.index * 1 ≡ 0 * 2 ^ c.whole.result.depth =
+    omega (arith, c.whole.ensures.index) in
     subst (HoldSwings (take count swings) 0 1) (still_angles state turns)
     (beside 0 1 angle (take count swings) turns whole
-    (λ k s t l. subst (λ r. HoldsSwing r 0 1 (angle (get_or turns k t))) (sym (get_or-take count swings k s l)) ((c.swings_over.ensures.swings k s t l).follows 0 0 1 record { within = omega arith; some = omega arith } at_start)))
+    (λ k s t l. subst (λ r. HoldsSwing r 0 1 (angle (get_or turns k t)))
+    (sym (get_or-take count swings k s l))
+    ((c.swings_over.ensures.swings k s t l).follows 0 0 1 record {
+      within = omega arith;
+      some = omega arith;
+    } at_start)))
 
 pub returns-clause-still : goal.returns-clause-still
 returns-clause-still c = λ k s l.
@@ -34,8 +43,15 @@ returns-clause-still c = λ k s l.
     let grid : 0 < state.grid = omega (arith, (grid_bounds state.grid state.on_grid).0) in
     let parts : 0 < 2 ^ c.whole.result.depth = pow_pos c.whole.result.depth in
     let some : 0 < den = grind arith in
-    let below : k < count = omega (arith, l, length-take-le count swings (omega (arith, c.swings_over.ensures.length, c.requires.count))) in
+    let below : k < count =
+    omega (
+      arith,
+      l,
+      length-take-le count swings
+          (omega (arith, c.swings_over.ensures.length, c.requires.count)),
+    ) in
     let t : Turn = record { place = None; upright = true; at = pos 0; sign = pos 1; signed = refl } in
     let close = (c.swings_over.ensures.swings k s t below).close in
     let none = no_change state (get_or turns k t).place in
-    subst (IsSwingWithin 2) (sym (get_or-take count swings k s below)) record { cos = within_two _ _ den some none close.cos; sin = within_two _ _ den some none close.sin }
+    subst (IsSwingWithin 2) (sym (get_or-take count swings k s below))
+    record { cos = within_two _ _ den some none close.cos; sin = within_two _ _ den some none close.sin }

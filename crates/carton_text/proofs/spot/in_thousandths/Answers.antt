@@ -14,6 +14,11 @@ returns c = λ x v h.
     let hi_more : SFits w128 (pos 1000 *ℤ c.args.number.hi) = k.thousandfold in
     let low : SFits w128 c.floor_div.result = search rules in
     let high : SFits w128 c.ceil_div.result = search rules in
-    let f : IsFloor (pos 1000 *ℤ c.args.number.lo) unit c.floor_div.result = simp to_z-of_z at c.floor_div.ensures in
-    let g : IsCeil (pos 1000 *ℤ c.args.number.hi) unit c.ceil_div.result = simp to_z-of_z at c.ceil_div.ensures in
-    simp to_z-of_z (thousandths_of c.args.number.lo c.args.number.hi record { low = c.floor_div.result; high = c.ceil_div.result } f g c.requires.close x v h)
+    let f : IsFloor (pos 1000 *ℤ c.args.number.lo) unit c.floor_div.result =
+    simp to_z-of_z at c.floor_div.ensures in
+    let g : IsCeil (pos 1000 *ℤ c.args.number.hi) unit c.ceil_div.result =
+    simp to_z-of_z at c.ceil_div.ensures in
+    simp to_z-of_z (thousandths_of c.args.number.lo c.args.number.hi record {
+      low = c.floor_div.result;
+      high = c.ceil_div.result;
+    } f g c.requires.close x v h)

@@ -16,7 +16,9 @@ returns-in-Some c =
     let p = λ (e : EdgeId). not (is_among e c.args.creases.now) in
     let starts = map edge_of c.args.job.now.starts in
     let targets = map edge_of c.args.job.now.targets in
-    let found : find p starts ≡ Some c.in-Some.edge = ap (λ (ss : List Setting). find p (map edge_of ss)) (sym c.as_slice.ensures) ∙ sym c.in-Some.ensures in
+    let found : find p starts ≡ Some c.in-Some.edge =
+    ap (λ (ss : List Setting). find p (map edge_of ss)) (sym c.as_slice.ensures)
+    ∙ sym c.in-Some.ensures in
     sym (in_first p (starts ++ targets) (members c.args.job.now.teams) _ (in_first p starts targets _ found))
 
 pub returns-in-Some-first_set : goal.returns-in-Some-first_set
@@ -24,15 +26,26 @@ returns-in-Some-first_set c =
     let p = λ (e : EdgeId). not (is_among e c.args.creases.now) in
     let starts = map edge_of c.args.job.now.starts in
     let targets = map edge_of c.args.job.now.targets in
-    let none : find p starts ≡ None = ap (λ (ss : List Setting). find p (map edge_of ss)) (sym c.as_slice.ensures) ∙ sym c.in_default.ensures in
-    let found : find p targets ≡ Some c.in-Some-first_set.edge = ap (λ (ss : List Setting). find p (map edge_of ss)) (sym c.as_slice-2.ensures) ∙ sym c.in-Some-first_set.ensures in
-    sym (in_first p (starts ++ targets) (members c.args.job.now.teams) _ (in_second p starts targets none ∙ found))
+    let none : find p starts ≡ None =
+    ap (λ (ss : List Setting). find p (map edge_of ss)) (sym c.as_slice.ensures)
+    ∙ sym c.in_default.ensures in
+    let found : find p targets ≡ Some c.in-Some-first_set.edge =
+    ap (λ (ss : List Setting). find p (map edge_of ss)) (sym c.as_slice-2.ensures)
+    ∙ sym c.in-Some-first_set.ensures in
+    sym (in_first p (starts ++ targets) (members c.args.job.now.teams) _ (in_second p starts targets none
+    ∙ found))
 
 pub returns : goal.returns
 returns c =
     let p = λ (e : EdgeId). not (is_among e c.args.creases.now) in
     let starts = map edge_of c.args.job.now.starts in
     let targets = map edge_of c.args.job.now.targets in
-    let none : find p starts ≡ None = ap (λ (ss : List Setting). find p (map edge_of ss)) (sym c.as_slice.ensures) ∙ sym c.in_default.ensures in
-    let neither : find p targets ≡ None = ap (λ (ss : List Setting). find p (map edge_of ss)) (sym c.as_slice-2.ensures) ∙ sym c.in_default-first_set.ensures in
-    c.first_member.ensures ∙ ap (λ (ts : List TeamLine). find p (members ts)) c.as_slice-3.ensures ∙ sym (in_second p (starts ++ targets) (members c.args.job.now.teams) (in_second p starts targets none ∙ neither))
+    let none : find p starts ≡ None =
+    ap (λ (ss : List Setting). find p (map edge_of ss)) (sym c.as_slice.ensures)
+    ∙ sym c.in_default.ensures in
+    let neither : find p targets ≡ None =
+    ap (λ (ss : List Setting). find p (map edge_of ss)) (sym c.as_slice-2.ensures)
+    ∙ sym c.in_default-first_set.ensures in
+    c.first_member.ensures ∙ ap (λ (ts : List TeamLine). find p (members ts)) c.as_slice-3.ensures
+    ∙ sym (in_second p (starts ++ targets) (members c.args.job.now.teams) (in_second p starts targets none
+    ∙ neither))

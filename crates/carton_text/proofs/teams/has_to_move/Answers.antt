@@ -6,4 +6,5 @@ use Rattle.carton_text.specs.Tasks.{moves}
 use Rattle.carton_text.proofs.teams.has_to_move.Goals as goal
 
 pub returns : goal.returns
-returns c = any_from_yields_List (λ k. is_same k.edge c.args.edge && moves k) _ _ _ c.any.ensures.ran (YieldsList-from_slice c.args.courses.now (cc)) (λ x b q k. search rules)
+returns c = any_from_yields_List (λ k. is_same k.edge c.args.edge && moves k) _ _ _ c.any.ensures.ran
+    (YieldsList-from_slice c.args.courses.now (cc)) (λ x b q k. search rules)

@@ -6,6 +6,7 @@ use Rattle.carton_text.proofs.teams.told_teams.Given as goal
 
 abbrev pub invariant-loop-line : goal.invariant-loop-line
 invariant-loop-line l = record {
-  so_far : with_front l.found (entries_from (λ i. team_of l.courses) l.line-index (drop l.line-index l.lines)) ≡ entries_from (λ i. team_of l.courses) 0 l.lines;
+  so_far : with_front l.found (entries_from (λ i. team_of l.courses) l.line-index (drop l.line-index l.lines))
+      ≡ entries_from (λ i. team_of l.courses) 0 l.lines;
   count : length l.found ≡ l.line-index;
 }

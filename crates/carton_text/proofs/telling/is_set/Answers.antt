@@ -5,4 +5,5 @@ use Rattle.carton_text.specs.Jobs.{is_same}
 use Rattle.carton_text.proofs.telling.is_set.Goals as goal
 
 pub returns : goal.returns
-returns c = any_from_yields_List (λ s. is_same s.edge c.args.edge) _ _ _ c.any.ensures.ran (YieldsList-from_slice c.args.settings.now (cc)) (λ x b q k. search rules)
+returns c = any_from_yields_List (λ s. is_same s.edge c.args.edge) _ _ _ c.any.ensures.ran
+    (YieldsList-from_slice c.args.settings.now (cc)) (λ x b q k. search rules)

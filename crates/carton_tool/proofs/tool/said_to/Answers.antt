@@ -20,7 +20,8 @@ returns-in-Ok-clause-said g c =
     let is = subst (λ o. IsFound words (option_map asked o)) c.in-Some.is c.in_ok-command.ensures in
     let names = ap (λ (ws : List Wanted). map named ws) c.deref.ensures.value ∙ c.in_ok-wanted.ensures in
     let read = subst (λ ns. AreAllRead holds had ns files) names c.in-Ok.ensures.all in
-    answered holds had words command files said is read (subst (λ fs. IsSaidOf command fs said) c.deref-in-Ok.ensures.value c.in_ok-said_of-in-Ok.ensures)
+    answered holds had words command files said is read
+    (subst (λ fs. IsSaidOf command fs said) c.deref-in-Ok.ensures.value c.in_ok-said_of-in-Ok.ensures)
 
 pub returns-in-Err-TooLong-clause-said : goal.returns-in-Err-TooLong-clause-said
 returns-in-Err-TooLong-clause-said g c =
@@ -31,5 +32,8 @@ returns-in-Err-TooLong-clause-said g c =
     let said = c.in_ok-refused-in-Err-TooLong.field-0 in
     let is = subst (λ o. IsFound words (option_map asked o)) c.in-Some.is c.in_ok-command.ensures in
     let names = ap (λ (ws : List Wanted). map named ws) c.deref.ensures.value ∙ c.in_ok-wanted.ensures in
-    let unread = subst (λ ns. IsUnread holds had ns c.in-Err-TooLong.field-0) names c.in-Err-TooLong.ensures.unread in
-    told_long holds had words command c.in-Err-TooLong.kind said is (subst (λ u. IsUnread holds had (files_of command) u) c.in-Err-TooLong.field-0-is unread) c.in_ok-refused-in-Err-TooLong.ensures
+    let unread = subst (λ ns. IsUnread holds had ns c.in-Err-TooLong.field-0) names
+    c.in-Err-TooLong.ensures.unread in
+    told_long holds had words command c.in-Err-TooLong.kind said is
+    (subst (λ u. IsUnread holds had (files_of command) u) c.in-Err-TooLong.field-0-is unread)
+    c.in_ok-refused-in-Err-TooLong.ensures

@@ -12,18 +12,26 @@ returns-in_err-sides-clause-refused c =
 
 pub returns-in-Some-clause-refused : goal.returns-in-Some-clause-refused
 returns-in-Some-clause-refused c =
-    let sides : (f i : ℕ) → ¬ (IsBare c.args.raw.now f i) = λ f i b. none_bare c.args.raw.now f i c.in_ok-sides.sides.items c.in_ok-sides.ensures.sides (omega (arith, b.panel, c.in_ok-sides.ensures.whole)) b in
+    let sides : (f i : ℕ) → ¬ (IsBare c.args.raw.now f i) =
+    λ f i b. none_bare c.args.raw.now f i c.in_ok-sides.sides.items c.in_ok-sides.ensures.sides
+    (omega (arith, b.panel, c.in_ok-sides.ensures.whole)) b in
     (sides, c.in-Some.ensures)
 
 pub returns-in-Some-first_one_way-clause-refused : goal.returns-in-Some-first_one_way-clause-refused
 returns-in-Some-first_one_way-clause-refused c =
-    let sides : (f i : ℕ) → ¬ (IsBare c.args.raw.now f i) = λ f i b. none_bare c.args.raw.now f i c.in_ok-sides.sides.items c.in_ok-sides.ensures.sides (omega (arith, b.panel, c.in_ok-sides.ensures.whole)) b in
+    let sides : (f i : ℕ) → ¬ (IsBare c.args.raw.now f i) =
+    λ f i b. none_bare c.args.raw.now f i c.in_ok-sides.sides.items c.in_ok-sides.ensures.sides
+    (omega (arith, b.panel, c.in_ok-sides.ensures.whole)) b in
     ((sides, c.in_default.ensures), c.in-Some-first_one_way.ensures)
 
 pub returns-in-Some-first_slanted-clause-refused : goal.returns-in-Some-first_slanted-clause-refused
 returns-in-Some-first_slanted-clause-refused c =
-    let sides : (f i : ℕ) → ¬ (IsBare c.args.raw.now f i) = λ f i b. none_bare c.args.raw.now f i c.in_ok-sides.sides.items c.in_ok-sides.ensures.sides (omega (arith, b.panel, c.in_ok-sides.ensures.whole)) b in
+    let sides : (f i : ℕ) → ¬ (IsBare c.args.raw.now f i) =
+    λ f i b. none_bare c.args.raw.now f i c.in_ok-sides.sides.items c.in_ok-sides.ensures.sides
+    (omega (arith, b.panel, c.in_ok-sides.ensures.whole)) b in
     (((sides, c.in_default.ensures), c.in_default-first_one_way.ensures), c.in-Some-first_slanted.ensures)
 
 pub returns-clause-sides : goal.returns-clause-sides
-returns-clause-sides c = λ f i b. none_bare c.args.raw.now f i c.in_ok-sides.sides.items c.in_ok-sides.ensures.sides (omega (arith, b.panel, c.in_ok-sides.ensures.whole)) b
+returns-clause-sides c =
+    λ f i b. none_bare c.args.raw.now f i c.in_ok-sides.sides.items c.in_ok-sides.ensures.sides
+    (omega (arith, b.panel, c.in_ok-sides.ensures.whole)) b

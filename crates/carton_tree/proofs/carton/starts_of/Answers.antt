@@ -11,5 +11,7 @@ loop-point-preserved c =
     let k = c.loop-point.point-index in
     let t : Triple = c.point-item.result in
     let ss = c.loop-point.starts.items in
-    let more : take (k + 1) ts ≡ take k ts ++ t ∷ [] = take_more ts k t c.loop-point-test.true ∙ ap (λ (x : Triple). take k ts ++ x ∷ []) (sym c.point-item.is) in
-    rw c.in_ok-push.ensures.items (subst (λ (x : List Triple). AreStarts x (ss ++ c.start_of.result ∷ [])) (sym more) (starts_more (take k ts) ss t c.start_of.result c.loop-point.invariant c.start_of.ensures))
+    let more : take (k + 1) ts ≡ take k ts ++ t ∷ [] = take_more ts k t c.loop-point-test.true
+    ∙ ap (λ (x : Triple). take k ts ++ x ∷ []) (sym c.point-item.is) in
+    rw c.in_ok-push.ensures.items (subst (λ (x : List Triple). AreStarts x (ss ++ c.start_of.result ∷ []))
+    (sym more) (starts_more (take k ts) ss t c.start_of.result c.loop-point.invariant c.start_of.ensures))

@@ -1,10 +1,8 @@
-use Rattle.std.proofs.Common.{◌≡◌, ◌∙◌, ◌<◌, List, length, Option, None, Some, refl, subst}
-use Rattle.std.specs.Prelude.{IfSome}
-use Rattle.std.proofs.lemmas.List.{get_or_default}
+use Rattle.std.proofs.Common.{◌≡◌, List, Option, None, refl}
 use Rattle.carton_base.specs.declared.limits.TheConstants.{LONGEST_PATH}
 use Rattle.carton_tree.specs.declared.joint.Joint.{Joint}
 use Rattle.carton_tree.specs.Trees.{joint_of, path, path_by}
-use Rattle.carton_tree.proofs.Walking.{path_on, path_ends, path_full}
+use Rattle.carton_tree.proofs.Walking.{step_up, path_on, path_ends, path_full}
 use Rattle.carton_tree.proofs.paths.path_of.Goals as goal
 
 pub loop-step-init : goal.loop-step-init
@@ -15,18 +13,25 @@ unfolding path
 returns-in-None-clause-path c =
     let js : List (Option Joint) = c.args.joints.now in
     let none : joint_of js c.loop-step.at.0 ≡ None = cc in
-    rw c.in_ok-push.ensures.ok (path_ends c.loop-step.found.items (path_by LONGEST_PATH js c.args.p.0) js c.loop-step.at c.loop-step._step c.loop-step-test.true none c.loop-step.invariant.rest)
+    rw c.in_ok-push.ensures.ok (path_ends c.loop-step.found.items (path_by LONGEST_PATH js c.args.p.0) js
+    c.loop-step.at c.loop-step._step c.loop-step-test.true none c.loop-step.invariant.rest)
 
 pub loop-step-preserved : goal.loop-step-preserved
 loop-step-preserved c =
     let js : List (Option Joint) = c.args.joints.now in
-    let j : Joint = c.in-Some.joint in
-    let is : joint_of js c.loop-step.at.0 ≡ Some j = get_or_default js c.loop-step.at.0 None _ c.loop-step.invariant.within ∙ c.in-Some.is in
-    let within = subst (λ o. IfSome o (λ (j : Joint). j.parent.0 < length js)) is (c.requires.joints c.loop-step.at.0) in
-    rw c.in_ok-push.ensures.ok (record { within = within; rest = path_on c.loop-step.found.items (path_by LONGEST_PATH js c.args.p.0) js c.loop-step.at j c.loop-step._step c.loop-step-test.true is c.loop-step.invariant.rest })
+    let up = step_up js c.loop-step.at.0 _ c.in-Some.joint c.requires.joints c.loop-step.invariant.within
+    c.in-Some.is in
+    rw c.in_ok-push.ensures.ok
+    (record {
+      within = up.1;
+      rest = path_on c.loop-step.found.items (path_by LONGEST_PATH js c.args.p.0)
+          js c.loop-step.at c.in-Some.joint c.loop-step._step c.loop-step-test.true up.0
+          c.loop-step.invariant.rest;
+    })
 
 pub returns-clause-path : goal.returns-clause-path
 unfolding path
 returns-clause-path c =
     let js : List (Option Joint) = c.args.joints.now in
-    rw c.in_ok-push-2.ensures.ok (path_full c.loop-step.found.items (path_by LONGEST_PATH js c.args.p.0) js c.loop-step.at c.loop-step._step c.loop-step-test.false c.loop-step.invariant.rest)
+    rw c.in_ok-push-2.ensures.ok (path_full c.loop-step.found.items (path_by LONGEST_PATH js c.args.p.0) js
+    c.loop-step.at c.loop-step._step c.loop-step-test.false c.loop-step.invariant.rest)

@@ -4,4 +4,9 @@ use Rattle.carton_tree.specs.Trees.{path_by}
 use Rattle.carton_tree.proofs.paths.path_of.Given as goal
 
 abbrev pub invariant-loop-step : goal.invariant-loop-step
-invariant-loop-step l = record { within : l.at.0 < length l.joints; rest : l.found.items ++ path_by (LONGEST_PATH - l._step) l.joints l.at.0 ≡ path_by LONGEST_PATH l.joints l.fn.p.0 }
+invariant-loop-step l =
+    record {
+      within : l.at.0 < length l.joints;
+      rest : l.found.items ++ path_by (LONGEST_PATH - l._step) l.joints l.at.0
+          ≡ path_by LONGEST_PATH l.joints l.fn.p.0;
+    }

@@ -1,10 +1,8 @@
-use Rattle.std.proofs.Common.{◌≡◌, ◌∙◌, ◌<◌, List, length, Option, None, Some, refl, subst}
-use Rattle.std.specs.Prelude.{IfSome}
-use Rattle.std.proofs.lemmas.List.{get_or_default}
+use Rattle.std.proofs.Common.{◌≡◌, List, Option, None, refl}
 use Rattle.carton_base.specs.declared.limits.TheConstants.{LONGEST_PATH}
 use Rattle.carton_tree.specs.declared.joint.Joint.{Joint}
 use Rattle.carton_tree.specs.Trees.{joint_of, turns_by}
-use Rattle.carton_tree.proofs.Walking.{turns_on, turns_end, turns_full}
+use Rattle.carton_tree.proofs.Walking.{step_up, turns_on, turns_end, turns_full}
 use Rattle.carton_tree.proofs.paths.turns_of.Goals as goal
 
 pub loop-step-init : goal.loop-step-init
@@ -14,15 +12,23 @@ pub returns-in-None-clause-turns : goal.returns-in-None-clause-turns
 returns-in-None-clause-turns c =
     let js : List (Option Joint) = c.args.joints.now in
     let none : joint_of js c.loop-step.at.0 ≡ None = cc in
-    turns_end c.loop-step.found.items (turns_by LONGEST_PATH js c.args.p.0) js c.loop-step.at.0 c.loop-step._step c.loop-step-test.true none c.loop-step.invariant.rest
+    turns_end c.loop-step.found.items (turns_by LONGEST_PATH js c.args.p.0) js c.loop-step.at.0
+    c.loop-step._step c.loop-step-test.true none c.loop-step.invariant.rest
 
 pub loop-step-preserved : goal.loop-step-preserved
 loop-step-preserved c =
     let js : List (Option Joint) = c.args.joints.now in
-    let j : Joint = c.in-Some.joint in
-    let is : joint_of js c.loop-step.at.0 ≡ Some j = get_or_default js c.loop-step.at.0 None _ c.loop-step.invariant.within ∙ c.in-Some.is in
-    let within = subst (λ o. IfSome o (λ (j : Joint). j.parent.0 < length js)) is (c.requires.joints c.loop-step.at.0) in
-    rw c.in_ok-push-in-Some.ensures.items (record { within = within; rest = turns_on c.loop-step.found.items (turns_by LONGEST_PATH js c.args.p.0) js c.loop-step.at.0 j c.loop-step._step c.loop-step-test.true is c.loop-step.invariant.rest })
+    let up = step_up js c.loop-step.at.0 _ c.in-Some.joint c.requires.joints c.loop-step.invariant.within
+    c.in-Some.is in
+    rw c.in_ok-push-in-Some.ensures.items
+    (record {
+      within = up.1;
+      rest = turns_on c.loop-step.found.items (turns_by LONGEST_PATH js c.args.p.0)
+          js c.loop-step.at.0 c.in-Some.joint c.loop-step._step c.loop-step-test.true up.0
+          c.loop-step.invariant.rest;
+    })
 
 pub returns-clause-turns : goal.returns-clause-turns
-returns-clause-turns c = turns_full c.loop-step.found.items (turns_by LONGEST_PATH c.args.joints.now c.args.p.0) c.args.joints.now c.loop-step.at.0 c.loop-step._step c.loop-step-test.false c.loop-step.invariant.rest
+returns-clause-turns c =
+    turns_full c.loop-step.found.items (turns_by LONGEST_PATH c.args.joints.now c.args.p.0) c.args.joints.now
+    c.loop-step.at.0 c.loop-step._step c.loop-step-test.false c.loop-step.invariant.rest

@@ -14,8 +14,11 @@ pub returns-then-is_one_way : goal.returns-then-is_one_way
 returns-then-is_one_way c =
     let d = c.args.raw.now in
     let k = c.loop-k.k in
-    let two = subst (IsBeside (IsSide d k) (length d.faces)) c.in-Two.is (c.requires.besides.each k Nobody c.loop-k-test.true) in
-    (one_way d k c.in-Two.first c.in-Two.second two (at_yes c.if-is_one_way.true c.is_one_way.ensures), c.loop-k.invariant)
+    let two = subst (IsBeside (IsSide d k) (length d.faces)) c.in-Two.is
+    (c.requires.besides.each k Nobody c.loop-k-test.true) in (
+      one_way d k c.in-Two.first c.in-Two.second two (at_yes c.if-is_one_way.true c.is_one_way.ensures),
+      c.loop-k.invariant,
+    )
 
 pub loop-k-preserved : goal.loop-k-preserved
 loop-k-preserved c =
@@ -28,7 +31,9 @@ loop-k-preserved c =
           let same : Two w.in-Two.first w.in-Two.second ≡ Two f g = cc in
           let one : w.in-Two.first ≡ f = cc in
           let other : w.in-Two.second ≡ g = cc in
-          at_no w.if-is_one_way.false w.is_one_way.ensures (subst (λ (x : PanelId). GoBoth d k x.0 w.in-Two.second.0) (sym one) (subst (λ (x : PanelId). GoBoth d k f.0 x.0) (sym other) both)))
+          at_no w.if-is_one_way.false w.is_one_way.ensures
+          (subst (λ (x : PanelId). GoBoth d k x.0 w.in-Two.second.0) (sym one)
+          (subst (λ (x : PanelId). GoBoth d k f.0 x.0) (sym other) both)))
       | in_default w ↦ not_one_way d k b is (c.requires.edges k) (λ f g e both. w.in_default.not-Two f g e)
     ])
 

@@ -11,7 +11,8 @@ pub returns-in-More : goal.returns-in-More
 returns-in-More c =
     let d = c.args.raw.now in
     let k = c.loop-k.k in
-    let more = subst (IsBeside (IsSide d k) (length d.faces)) c.in-More.is (c.requires.besides.each k Nobody c.loop-k-test.true) in
+    let more = subst (IsBeside (IsSide d k) (length d.faces)) c.in-More.is
+    (c.requires.besides.each k Nobody c.loop-k-test.true) in
     (threefold d k more, c.loop-k.invariant)
 
 pub loop-k-preserved : goal.loop-k-preserved
@@ -19,7 +20,8 @@ loop-k-preserved c =
     let d = c.args.raw.now in
     let k = c.loop-k.k in
     let b : Beside = get_or c.args.besides.now k Nobody in
-    below_more (λ j. ¬ (IsThreefold d j)) k c.loop-k.invariant (not_threefold d k b c.in_default.not-More (c.requires.besides.each k Nobody c.loop-k-test.true))
+    below_more (λ j. ¬ (IsThreefold d j)) k c.loop-k.invariant
+    (not_threefold d k b c.in_default.not-More (c.requires.besides.each k Nobody c.loop-k-test.true))
 
 pub returns : goal.returns
 returns c = λ k t.

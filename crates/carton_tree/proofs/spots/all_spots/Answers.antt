@@ -11,7 +11,8 @@ loop-r-init c =
     let root = c.args.root.0 in
     let none : List (Option Spot) = replicate 24 None in
     let s : Spot = record { depth = 0; hinge = 0; parent = c.args.root } in
-    root_hangs c.args.hinges.now root (set none root (Some s)) s (length-set none root (Some s)) c.requires.root refl
+    root_hangs c.args.hinges.now root (set none root (Some s)) s (length-set none root (Some s))
+    c.requires.root refl
     (get_or-set_same none root (Some s) None c.requires.root)
     (λ p n. get_or-set_other none root p (Some s) None n ∙ nones 24 p)
 

@@ -16,5 +16,8 @@ returns c = λ root h.
     let mid : List (Option Spot) = set old x.first.0 c.hung_from.result in
     let new : List (Option Spot) = set mid x.second.0 c.hung_from-2.result in
     let there = hinge_joins hs i x c.requires.i (get_or_default hs i blank x c.requires.i) in
-    hung_both hs root c.args.r i x.first x.second old mid new (λ a b j. j.1 blank) there (hinge_back hs i x.first.0 x.second.0 there) (c.requires.within i blank c.requires.i).0 (c.requires.within i blank c.requires.i).1
-    (ap (λ s. set old x.first.0 s) c.hung_from.ensures) (ap (λ s. set mid x.second.0 s) c.hung_from-2.ensures) h
+    hung_both hs root c.args.r i x.first x.second old mid new (λ a b j. j.1 blank) there
+    (hinge_back hs i x.first.0 x.second.0 there) (c.requires.within i blank c.requires.i).0
+    (c.requires.within i blank c.requires.i).1
+    (ap (λ s. set old x.first.0 s) c.hung_from.ensures) (ap (λ s. set mid x.second.0 s) c.hung_from-2.ensures)
+    h

@@ -1,33 +1,8 @@
-use Rattle.std.proofs.Common.{arith, SFits, ◌-ℤ◌}
-use Rattle.std.specs.Int.{w128}
-use Rattle.std.proofs.lemmas.Int.{ints, to_z-of_z}
-use Rattle.carton_enclose.proofs.Ends.{ends_fit, holds_difference, size_difference, spread_difference}
+use Rattle.std.proofs.Common.{arith, ◌≡◌, ◌+ℤ◌, ◌-ℤ◌, neg_ℤ}
+use Rattle.std.proofs.lemmas.Int.{ints}
 use Rattle.carton_fix.proofs.fix.FixEnclose.sub.Goals as goal
 
-pub invariant_of-result : goal.invariant_of-result
-invariant_of-result c =
-    let e = ends_fit c.args.self.lo c.args.self.hi c.args.self.bounded in
-    let h = ends_fit c.args.other.lo c.args.other.hi c.args.other.bounded in
-    let a0 : SFits w128 c.args.self.lo = e.0 in
-    let a1 : SFits w128 c.args.self.hi = e.1 in
-    let b0 : SFits w128 c.args.other.lo = h.0 in
-    let b1 : SFits w128 c.args.other.hi = h.1 in
-    let lo : SFits w128 (c.args.self.lo -ℤ c.args.other.hi) = omega (arith, ints, c.requires.left, c.requires.right) in
-    let hi : SFits w128 (c.args.self.hi -ℤ c.args.other.lo) = omega (arith, ints, c.requires.left, c.requires.right) in
-    simp to_z-of_z (record { ordered = omega (arith, ints, c.args.self.ordered, c.args.other.ordered); bounded = omega (arith, ints, c.requires.left, c.requires.right) })
-
-pub returns : goal.returns
-returns c =
-    let e = ends_fit c.args.self.lo c.args.self.hi c.args.self.bounded in
-    let h = ends_fit c.args.other.lo c.args.other.hi c.args.other.bounded in
-    let a0 : SFits w128 c.args.self.lo = e.0 in
-    let a1 : SFits w128 c.args.self.hi = e.1 in
-    let b0 : SFits w128 c.args.other.lo = h.0 in
-    let b1 : SFits w128 c.args.other.hi = h.1 in
-    let lo : SFits w128 (c.args.self.lo -ℤ c.args.other.hi) = omega (arith, ints, c.requires.left, c.requires.right) in
-    let hi : SFits w128 (c.args.self.hi -ℤ c.args.other.lo) = omega (arith, ints, c.requires.left, c.requires.right) in
-    record {
-      holds = λ n d x y w m p hx hy. simp to_z-of_z (holds_difference c.args.self.lo c.args.self.hi c.args.other.lo c.args.other.hi x y w hx hy);
-      size = simp to_z-of_z (size_difference c.args.self.lo c.args.self.hi c.args.other.lo c.args.other.hi);
-      spread = simp to_z-of_z (spread_difference c.args.self.lo c.args.self.hi c.args.other.lo c.args.other.hi);
-    }
+pub returns-clause-holds : goal.returns-clause-holds
+returns-clause-holds c = λ n d x y w m p hx hy.
+    let e : x +ℤ neg_ℤ y ≡ x -ℤ y = omega (arith, ints) in
+    rw e at (c.add.ensures.holds n d x (neg_ℤ y) w m p hx (c.neg.ensures.holds n d y w m p hy))

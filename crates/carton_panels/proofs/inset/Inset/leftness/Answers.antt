@@ -14,6 +14,12 @@ returns c = λ d.
     let e = c.vertex.ensures in
     let p = c.args.place in
     let s : Side = get_or (sides_of c.args.self.places.now) c.args.k d in
-    let moved : c.gap.result ≡ inset c.bare.result.margin (get_or (sides_of c.bare.result.places.now) c.args.k d) v.x v.y v.w = c.gap.ensures d in
-    let g : c.gap.result ≡ inset 0 s v.x v.y v.w = moved ∙ ap (λ m. inset m (get_or (sides_of c.bare.result.places.now) c.args.k d) v.x v.y v.w) c.bare.ensures.margin ∙ ap (λ (ps : List Point). inset 0 (get_or (sides_of ps) c.args.k d) v.x v.y v.w) c.bare.ensures.places in
-    simp to_z-of_z (g ∙ inset_no_margin s v.x v.y v.w ∙ ap (λ x. leftness s x v.y v.w) e.x ∙ ap (λ y. leftness s p.x y v.w) e.y ∙ ap (λ w. leftness s p.x p.y w) e.w)
+    let moved : c.gap.result ≡ inset c.bare.result.margin (get_or (sides_of c.bare.result.places.now) c.args.k
+    d) v.x v.y v.w = c.gap.ensures d in
+    let g : c.gap.result ≡ inset 0 s v.x v.y v.w = moved
+    ∙ ap (λ m. inset m (get_or (sides_of c.bare.result.places.now) c.args.k d) v.x v.y
+    v.w) c.bare.ensures.margin
+    ∙ ap (λ (ps : List Point). inset 0 (get_or (sides_of ps) c.args.k d) v.x v.y
+    v.w) c.bare.ensures.places in
+    simp to_z-of_z (g ∙ inset_no_margin s v.x v.y v.w ∙ ap (λ x. leftness s x v.y v.w) e.x
+    ∙ ap (λ y. leftness s p.x y v.w) e.y ∙ ap (λ w. leftness s p.x p.y w) e.w)

@@ -11,5 +11,7 @@ returns c =
     let p = c.args.self.now in
     let bare = c.bare.ensures in
     let places = bare.places ∙ c.inset.ensures.places in
-    let k = subst (λ (ps : List Point). IsTrue c.keeps_all.result ↔ KeepsAll 0 ps t.x t.y t.w) places (subst (λ m. IsTrue c.keeps_all.result ↔ KeepsAll m c.bare.result.places.now t.x t.y t.w) bare.margin c.keeps_all.ensures) in
+    let k = subst (λ (ps : List Point). IsTrue c.keeps_all.result ↔ KeepsAll 0 ps t.x t.y t.w) places
+    (subst (λ m. IsTrue c.keeps_all.result ↔ KeepsAll m c.bare.result.places.now t.x t.y t.w) bare.margin
+    c.keeps_all.ensures) in
     same_test k (panel_from_keeps p.places t.x t.y t.w) (keeps_from_panel p.places t.x t.y t.w)

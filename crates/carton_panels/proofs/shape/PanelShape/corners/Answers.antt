@@ -7,10 +7,16 @@ use Rattle.carton_panels.proofs.NearCorners.{near_corners}
 use Rattle.carton_panels.proofs.shape.PanelShape.corners.Goals as goal
 
 pub returns-clause-whole : goal.returns-clause-whole
-returns-clause-whole c = subst (All (λ (t : Triple). t.w ≡ pos 1)) (sym c.as_slice.ensures.value) c.self.invariant.whole
+returns-clause-whole c = subst (All (λ (t : Triple). t.w ≡ pos 1)) (sym c.as_slice.ensures.value)
+    c.self.invariant.whole
 
 pub returns-clause-near : goal.returns-clause-near
 returns-clause-near c =
     let i = c.self.inside in
-    let s : Shape = record { places = i.places.items; margin = i.margin; corners = i.corners.items; shrunk = i.shrunk.items } in
+    let s : Shape = record {
+      places = i.places.items;
+      margin = i.margin;
+      corners = i.corners.items;
+      shrunk = i.shrunk.items;
+    } in
     subst (All IsNearPoint) (sym c.as_slice.ensures.value) (near_corners s c.self.invariant)

@@ -9,5 +9,9 @@ pub returns : goal.returns
 returns c =
     let t = c.args.t in
     let p = c.args.self.now in
-    let k = subst (λ (ps : List Point). IsTrue c.keeps_all.result ↔ KeepsAll p.margin ps t.x t.y t.w) c.inset.ensures.places (subst (λ m. IsTrue c.keeps_all.result ↔ KeepsAll m c.inset.result.places.now t.x t.y t.w) c.inset.ensures.margin c.keeps_all.ensures) in
-    same_test k (shrunk_from_keeps p.margin p.places t.x t.y t.w t.positive) (keeps_from_shrunk p.margin p.places t.x t.y t.w t.positive)
+    let k = subst (λ (ps : List Point). IsTrue c.keeps_all.result ↔ KeepsAll p.margin ps t.x t.y t.w)
+    c.inset.ensures.places
+    (subst (λ m. IsTrue c.keeps_all.result ↔ KeepsAll m c.inset.result.places.now t.x t.y t.w)
+    c.inset.ensures.margin c.keeps_all.ensures) in
+    same_test k (shrunk_from_keeps p.margin p.places t.x t.y t.w t.positive)
+    (keeps_from_shrunk p.margin p.places t.x t.y t.w t.positive)

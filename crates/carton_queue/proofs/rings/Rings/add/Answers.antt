@@ -8,14 +8,16 @@ insert_after-requires-clause-head c =
     let s = c.args.self.now in
     let a = c.len.result + c.args.priority in
     let e : a ≡ length s.priorities + c.args.priority = omega (arith, c.len.ensures) in
-    in_links s.priorities s.links s.buckets c.args.priority _ c.requires.priority c.requires.linked (head_in s.priorities s.links s.buckets c.args.priority a e c.requires.priority c.requires.linked)
+    in_links s.priorities s.links s.buckets c.args.priority _ c.requires.priority c.requires.linked
+    (head_in s.priorities s.links s.buckets c.args.priority a e c.requires.priority c.requires.linked)
 
 pub insert_after-requires-clause-apart_head : goal.insert_after-requires-clause-apart_head
 insert_after-requires-clause-apart_head c =
     let s = c.args.self.now in
     let a = c.len.result + c.args.priority in
     let e : a ≡ length s.priorities + c.args.priority = omega (arith, c.len.ensures) in
-    head_apart s.priorities s.links s.buckets c.args.priority a c.args.node e c.requires.priority c.requires.node c.requires.absent c.requires.linked
+    head_apart s.priorities s.links s.buckets c.args.priority a c.args.node e c.requires.priority
+    c.requires.node c.requires.absent c.requires.linked
 
 pub returns-clause-linked : goal.returns-clause-linked
 returns-clause-linked c =
@@ -23,4 +25,6 @@ returns-clause-linked c =
     let a = c.len.result + c.args.priority in
     let e : a ≡ length s.priorities + c.args.priority = omega (arith, c.len.ensures) in
     subst (λ (xs : List (Option ℕ)). IsLinked xs c.insert_after.new.links s.buckets) (sym c.set.ensures)
-    (added s.priorities s.links c.insert_after.new.links s.buckets c.args.priority a c.args.node e c.requires.priority c.requires.node c.requires.absent c.requires.linked c.insert_after.ensures.len c.insert_after.ensures.next c.insert_after.ensures.previous)
+    (added s.priorities s.links c.insert_after.new.links s.buckets c.args.priority a c.args.node e
+    c.requires.priority c.requires.node c.requires.absent c.requires.linked c.insert_after.ensures.len
+    c.insert_after.ensures.next c.insert_after.ensures.previous)

@@ -15,15 +15,26 @@ loop-a-preserved g c =
     let r = c.joined.result in
     let m = get_or c.reaches_at-more.result i c.index-more-a.result in
     let l : i < length xs = omega (arith, c.loop-a.invariant.0, c.loop-a-test.true) in
-    let j : IsJoined (get_or xs i c.index-self-a.result) m r = record { least_low = c.joined.ensures.least_low; least_high = c.joined.ensures.least_high; greatest_low = c.joined.ensures.greatest_low; greatest_high = c.joined.ensures.greatest_high } in
-    let here : (e : Reach) → IsWidened g.E.Enclose.holds g.E.Enclose.spread c.args.at (axis_at i) (get_or ys i e) r =
+    let j : IsJoined (get_or xs i c.index-self-a.result) m r =
+    record {
+      least_low = c.joined.ensures.least_low;
+      least_high = c.joined.ensures.least_high;
+      greatest_low = c.joined.ensures.greatest_low;
+      greatest_high = c.joined.ensures.greatest_high;
+    } in
+    let here : (e : Reach)
+    → IsWidened g.E.Enclose.holds g.E.Enclose.spread c.args.at (axis_at i) (get_or ys i e) r =
     λ e. record {
       corner = m;
       reach = c.reaches_at-more.ensures.reaches i c.index-more-a.result c.loop-a-test.true;
-      joined = subst (λ p. IsJoined p m r) (get_or_default xs i c.index-self-a.result e l ∙ c.loop-a.invariant.2 i e (omega arith)) j;
+      joined =
+          subst (λ p. IsJoined p m r) (get_or_default xs i c.index-self-a.result e l
+          ∙ c.loop-a.invariant.2 i e (omega arith)) j;
     } in (
       length-set xs i r ∙ c.loop-a.invariant.0,
-      one_more_set (λ a x. (e : Reach) → IsWidened g.E.Enclose.holds g.E.Enclose.spread c.args.at (axis_at a) (get_or ys a e) x) xs i r l here c.loop-a.invariant.1,
+      one_more_set (λ a x. (e : Reach)
+          → IsWidened g.E.Enclose.holds g.E.Enclose.spread c.args.at (axis_at a) (get_or ys a e) x) xs i r l
+          here c.loop-a.invariant.1,
       rest_stays xs ys i r c.loop-a.invariant.2,
       c.loop-a.invariant.3,
     )

@@ -1,9 +1,6 @@
-use Rattle.std.proofs.Common.{◌≡◌, Some, None, sym, ◌∙◌, ap, subst}
-use Rattle.std.specs.Prelude.{Contains}
-use Rattle.carton_base.specs.declared.ids.PanelId.{PanelId}
+use Rattle.std.proofs.Common.{◌≡◌, Some, None, refl, sym, ◌∙◌, ap}
 use Rattle.carton_tree.specs.Trees.{Tree, path, first_shared, number_or, parting}
-use Rattle.carton_tree.specs.Cartons.{IsCarton}
-use Rattle.carton_tree.proofs.Meeting.{shared_in, root_on}
+use Rattle.carton_tree.proofs.Meeting.{shared_in, root_above}
 use Rattle.carton_tree.proofs.carton.Carton.parting.Goals as goal
 
 pub returns-in-Some-clause-parting : goal.returns-in-Some-clause-parting
@@ -33,15 +30,9 @@ returns-in-None-clause-parting c =
     ap (λ (x : Tree). x.root) c.self.view_is ∙ sym (ap (number_or t.root) told)
 
 pub returns-in-None-clause-above_a : goal.returns-in-None-clause-above_a
-returns-in-None-clause-above_a c =
-    let t : Tree = c.args.self.now in
-    let carton : IsCarton t = subst IsCarton c.self.view_is c.self.invariant.0 in
-    let root : PanelId = record { 0 = t.root } in
-    subst (λ (x : PanelId). Contains (path t.joints c.args.a.0) x) (ap (λ n. record { 0 = n }) (sym (ap (λ (x : Tree). x.root) c.self.view_is))) (root_on t c.args.a.0 carton c.requires.a)
+returns-in-None-clause-above_a c = root_above _ c.args.self.now c.self.inside.root c.args.a.0 c.self.view_is
+    refl c.self.invariant.0 c.requires.a
 
 pub returns-in-None-clause-above_b : goal.returns-in-None-clause-above_b
-returns-in-None-clause-above_b c =
-    let t : Tree = c.args.self.now in
-    let carton : IsCarton t = subst IsCarton c.self.view_is c.self.invariant.0 in
-    let root : PanelId = record { 0 = t.root } in
-    subst (λ (x : PanelId). Contains (path t.joints c.args.b.0) x) (ap (λ n. record { 0 = n }) (sym (ap (λ (x : Tree). x.root) c.self.view_is))) (root_on t c.args.b.0 carton c.requires.b)
+returns-in-None-clause-above_b c = root_above _ c.args.self.now c.self.inside.root c.args.b.0 c.self.view_is
+    refl c.self.invariant.0 c.requires.b

@@ -1,6 +1,0 @@
-use Rattle.std.proofs.lemmas.Slice.Eq.{slice_eq-Decides}
-use Rattle.carton_text.proofs.Compared.{crease_eq-Decides}
-use Rattle.carton_fixture_tests.proofs.setups.are_same.Goals as goal
-
-pub returns : goal.returns
-returns c = slice_eq-Decides crease_eq-Decides c.args.first.now c.args.second.now c.eq.result c.eq.ensures

@@ -1,8 +1,0 @@
-use Rattle.std.proofs.Common.{◌≡◌, ℕ, ◌<◌, ◌≤◌, get_or, length}
-use Rattle.carton_reach.specs.declared.reach.Reach.{Reach}
-use Rattle.carton_stroke.specs.declared.extent.Extent.{Extent}
-use Rattle.carton_stroke.specs.Extents.{IsNear}
-use Rattle.carton_stroke.proofs.looking.are_near.Given as goal
-
-abbrev pub invariant-loop-a : goal.invariant-loop-a
-invariant-loop-a l = (13 ≤ length l.panel.axes) × (length l.body.axes ≡ 13) × ((a : ℕ) (d : Reach) (e : Extent) → a < l.a → IsNear l.room (get_or l.panel.axes a d) (get_or l.body.axes a e))
