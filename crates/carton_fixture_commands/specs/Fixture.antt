@@ -5,7 +5,7 @@ use Rattle.carton_fixture.specs.Answers.{IsFailure, IsMade, IsRefusal}
 use Rattle.carton_fixture.specs.declared.answers.UnheldEnd.{UnheldEnd}
 use Rattle.carton_fixture_text.specs.FixtureRules.{IsFixture}
 use Rattle.carton_fixture_text.specs.FixtureTexts.{spelling}
-use Rattle.carton_plan_commands.specs.Check.{checked_text}
+use Rattle.carton_setup.specs.Checks.{checked_text}
 use Rattle.carton_setup.specs.Outcomes.{Outcomes, ◌>>=◌, gives, values}
 use Rattle.carton_setup.specs.Printed.{line}
 use Rattle.carton_setup.specs.Supplies.{supplies}

@@ -6,8 +6,7 @@ use crate::notes::{unheld_line, write_notes};
 use carton_base::{Listed, OutOfMemory};
 use carton_check::Checked;
 use carton_fixture::{Compiled, Fixture, UnheldEnd, compile, write_fixture};
-use carton_plan_commands::checked_text;
-use carton_setup::{Command, Refusal, Supply, Told};
+use carton_setup::{Command, Refusal, Supply, Told, checked_text};
 use carton_stroke::BodyNote;
 use std::alloc::{AllocError, Global};
 

@@ -247,7 +247,7 @@ fn close_in<E: Enclose>(
 }
 
 /// Closes the pairs that some frame parts throughout every move between the two states. The root's
-/// frame comes first, since it serves the most pairs.
+/// frame comes first, since it serves the most pairs; no frame is tried once none is open.
 pub fn close_all<E: Enclose>(
     carton: &Carton,
     low: &State,
@@ -267,6 +267,9 @@ pub fn close_all<E: Enclose>(
     let mut known: Placements = [None; MOST_PANELS];
     close_in::<E>(carton, low, high, root, rows, &mut known);
     for f in 0..count {
+        if !has_open_pair(rows) {
+            return;
+        }
         if f != root.0 {
             close_in::<E>(carton, low, high, PanelId(f), rows, &mut known);
         }

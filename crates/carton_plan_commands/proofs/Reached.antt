@@ -63,10 +63,11 @@ found_of s (StartBlocked a b) h near =
       still = tt;
       blocked = h;
       none = tt;
+      begun = tt;
       few = tt;
       cause = tt;
     }) near.0 near.1 near.2)
-found_of s NoPath h near = absurd (h near.0 near.1)
+found_of s NoPath h near = absurd (h.1 near.0 near.1)
 found_of s (OutOfTurns moves) h near =
     absurd (budget s.task s.carton (TurnsEnd moves) (record {
       plan = tt;
@@ -76,6 +77,7 @@ found_of s (OutOfTurns moves) h near =
       still = tt;
       blocked = tt;
       none = tt;
+      begun = tt;
       few = h.0;
       cause = h.1;
     }) near.0 near.1 near.2)

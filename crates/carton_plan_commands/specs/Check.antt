@@ -1,7 +1,5 @@
 -- What `check` tells: whether a plan is sound for the carton and the task of a job.
-use Rattle.std.specs.Prelude.{◌≡◌, ℕ, nat_eq, List, ◌++◌, codes, Ok, if◌then◌else◌}
-use Rattle.carton_base.specs.declared.ids.PanelId.{PanelId}
-use Rattle.carton_base.specs.declared.moments.Moment.{Moment}
+use Rattle.std.specs.Prelude.{◌≡◌, ℕ, List, Ok}
 use Rattle.carton_check.specs.Checks.{IsChecked}
 use Rattle.carton_check.specs.Sound.{IsSound}
 use Rattle.carton_check.specs.declared.checked.Checked.{Checked}
@@ -10,9 +8,10 @@ use Rattle.carton_check.specs.declared.checked.Checked.TheVariants.{NotOneStop, 
 use Rattle.carton_text.specs.PlainPlans.{plain}
 use Rattle.carton_text.specs.Plans.{plan_of}
 use Rattle.carton_text.specs.declared.plan.Plan.{Plan}
+use Rattle.carton_setup.specs.Checks.{checked_text}
 use Rattle.carton_setup.specs.Files.{file_at}
 use Rattle.carton_setup.specs.Outcomes.{Outcomes, ◌>>=◌, gives, values}
-use Rattle.carton_setup.specs.Printed.{line, spaced, moment_text}
+use Rattle.carton_setup.specs.Printed.{line}
 use Rattle.carton_setup.specs.Proposals.{proposals}
 use Rattle.carton_setup.specs.Setups.{setups}
 use Rattle.carton_setup.specs.Telling.{done, denied}
@@ -20,25 +19,6 @@ use Rattle.carton_setup.specs.declared.proposal.Proposal.{Proposal}
 use Rattle.carton_setup.specs.declared.setup.Setup.{Setup}
 use Rattle.carton_setup.specs.declared.told.Ending.TheVariants.{Done}
 use Rattle.carton_setup.specs.declared.told.Told.{Told}
-
--- two panels aren't parted well at this moment of a move
-abbrev pub blocked_text : ℕ → PanelId → PanelId → Moment → List ℕ
-blocked_text i a b m =
-    codes "blocked move" ++ spaced i
-    ++ (codes " panels" ++ spaced a.0 ++ (spaced b.0 ++ (codes " moment " ++ moment_text m)))
-
--- a move is too long; where the stride is one stop, it is said so
-abbrev pub too_long_text : ℕ → List ℕ
-too_long_text stride = if nat_eq stride 1 then codes "not one stop" else codes "past stride"
-
--- what is told of a plan, for a task of this stride
-abbrev pub checked_text : ℕ → Checked → List ℕ
-checked_text stride WrongCreases = codes "wrong creases"
-checked_text stride WrongStart = codes "wrong start"
-checked_text stride WrongEnd = codes "wrong end"
-checked_text stride (NotOneStop i) = too_long_text stride ++ spaced i
-checked_text stride (Blocked i a b m) = blocked_text i a b m
-checked_text stride (Holds moves) = codes "holds" ++ spaced moves
 
 -- that line is told, and done where the plan holds
 abbrev pub told_check : ℕ → Checked → Told

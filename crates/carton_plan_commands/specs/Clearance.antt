@@ -6,13 +6,14 @@ use Rattle.carton_report.specs.Clearances.{IsCleared}
 use Rattle.carton_report.specs.declared.cleared.Cleared.TheVariants.{Rows as AllRows, Fails as Failed}
 use Rattle.carton_report.specs.declared.cleared.Row.{Row}
 use Rattle.carton_report.specs.declared.cleared.Row.TheVariants.{Wide, Tight}
+use Rattle.carton_setup.specs.Checks.{checked_text}
 use Rattle.carton_setup.specs.Outcomes.{Outcomes, ◌>>=◌, gives, values}
 use Rattle.carton_setup.specs.Printed.{line, spaced, moment_text}
 use Rattle.carton_setup.specs.Proposals.{proposals}
 use Rattle.carton_setup.specs.Telling.{done, denied}
 use Rattle.carton_setup.specs.declared.proposal.Proposal.{Proposal}
 use Rattle.carton_setup.specs.declared.told.Told.{Told}
-use Rattle.carton_plan_commands.specs.Check.{checked_text, IsSoundProposal}
+use Rattle.carton_plan_commands.specs.Check.{IsSoundProposal}
 use Rattle.carton_plan_commands.specs.declared.clearance.Report.{Report}
 use Rattle.carton_plan_commands.specs.declared.clearance.Report.TheVariants.{Rows, Fails}
 

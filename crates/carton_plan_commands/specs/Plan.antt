@@ -2,6 +2,7 @@
 use Rattle.std.specs.Prelude.{⊤, ◌≡◌, ℕ, ◌≤◌, pos, List, ◌++◌, length, codes}
 use Rattle.carton_base.specs.declared.motion.State.{State}
 use Rattle.carton_check.specs.Sound.{IsSound, KeepsApart}
+use Rattle.carton_search.specs.Clear.{AreApart}
 use Rattle.carton_search.specs.Ends.{IsClearPath, IsShortest, IsTurnsCause, AreBlockedAt}
 use Rattle.carton_search.specs.Paths.{IsSlackPath, moves_of}
 use Rattle.carton_text.specs.PlanRules.{IsPlan}
@@ -55,7 +56,8 @@ HaveAllMoves s moves = (path : List State) → IsSlackPath s.task s.carton path 
 abbrev pub IsPlanned : Setup → Planned → Type 0
 IsPlanned s (Found plan) = IsBest s plan
 IsPlanned s (StartBlocked a b) = AreBlockedAt s.task s.carton s.task.start a.0 b.0
-IsPlanned s NoPath = (path : List State) → ¬ (IsSlackPath s.task s.carton path)
+IsPlanned s NoPath = AreApart s.carton (pos 0) s.task.start
+    × ((path : List State) → ¬ (IsSlackPath s.task s.carton path))
 IsPlanned s (OutOfTurns moves) = HaveAllMoves s moves × IsTurnsCause s.task s.carton moves
 
 -- a plan that was found keeps the rules of its text

@@ -3,11 +3,10 @@ ghost use Rattle.carton_setup.specs.Printed.{line};
 ghost use Rattle.carton_plan_commands.specs.Clearance.{tight_text, row_line as row_line_of};
 ghost use Rattle.carton_plan_commands.specs.Clearance.{rows_text as rows_text_of};
 
-use crate::check::checked_text;
 use carton_base::{Listed, Moment, OutOfMemory, PanelId};
 use carton_check::Checked;
 use carton_report::{Cleared, Row, clearances};
-use carton_setup::{Command, Proposal, Refusal, Told, moment_text};
+use carton_setup::{Command, Proposal, Refusal, Told, checked_text, moment_text};
 use std::alloc::{AllocError, Global};
 
 /// The report on a plan: a row for each move of a plan that holds, in order, or what its check says of

@@ -9,7 +9,7 @@ mod make;
 mod plan;
 mod pose;
 
-pub use check::{CheckCommand, checked_text};
+pub use check::CheckCommand;
 pub use clearance::ClearanceCommand;
 pub use flat::FlatCommand;
 pub use make::MakeCommand;

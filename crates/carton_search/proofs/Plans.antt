@@ -125,6 +125,7 @@ module _ (task : Task) (carton : Tree) (rules : IsTask task) where
         still = still;
         blocked = tt;
         none = tt;
+        begun = tt;
         few = tt;
         cause = tt;
       }
@@ -140,12 +141,14 @@ module _ (task : Task) (carton : Tree) (rules : IsTask task) where
     still = tt;
     blocked = near;
     none = tt;
+    begun = tt;
     few = tt;
     cause = tt;
   }
 
-  pub none_end : (k : Knowledge) → IsOutcome task carton k NoWay → IsEnd task carton NoPath
-  none_end k way = record {
+  pub none_end : (k : Knowledge) → IsOutcome task carton k NoWay → AreApart carton (pos 0) task.start
+      → IsEnd task carton NoPath
+  none_end k way clear = record {
     plan = tt;
     path = tt;
     clear = tt;
@@ -153,6 +156,7 @@ module _ (task : Task) (carton : Tree) (rules : IsTask task) where
     still = tt;
     blocked = tt;
     none = λ p path. way p path.0;
+    begun = clear;
     few = tt;
     cause = tt;
   }
@@ -167,6 +171,7 @@ module _ (task : Task) (carton : Tree) (rules : IsTask task) where
     still = tt;
     blocked = tt;
     none = tt;
+    begun = tt;
     few = λ p path. stop.0 p path.0;
     cause = stop.1;
   }

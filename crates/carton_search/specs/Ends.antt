@@ -70,5 +70,6 @@ pub record IsEnd (task : Task) (carton : Tree) (end : SearchEnd) : Type 0 where
   pub still : IfFound end (λ plan. task.start ≡ task.target → length plan.states ≡ 1)
   pub blocked : IfStartBlocked end (λ a b. AreBlockedAt task carton task.start a.0 b.0)
   pub none : IfNoPath end ((p : List State) → IsSlackPath task carton p → ⊥)
+  pub begun : IfNoPath end (AreApart carton (pos 0) task.start)
   pub few : IfOutOfTurns end (λ moves. (p : List State) → IsSlackPath task carton p → moves ≤ moves_of p)
   pub cause : IfOutOfTurns end (IsTurnsCause task carton)

@@ -105,6 +105,7 @@ pub fn search<J: Judge>(alloc: Global, task: &Task, judge: &mut J) -> SearchEnd
     ensures start_blocked { IfStartBlocked result
         (λ a b. AreBlockedAt task.now (J.carton judge.old) task.now.start a.0 b.0) }
     ensures no_path { IfNoPath result ((p : List State) → IsSlackPath task.now (J.carton judge.old) p → ⊥) }
+    ensures no_path_start { IfNoPath result (AreApart (J.carton judge.old) (pos 0) task.now.start) }
     ensures turns_few { IfOutOfTurns result (λ moves. (p : List State)
         → IsSlackPath task.now (J.carton judge.old) p → moves ≤ moves_of p) }
     ensures turns_cause { IfOutOfTurns result (IsTurnsCause task.now (J.carton judge.old)) }

@@ -5,6 +5,7 @@
 mod accepting;
 mod breach;
 mod breaches;
+mod checks;
 mod command;
 mod files;
 mod moment;
@@ -18,6 +19,7 @@ mod told;
 
 pub use accepting::accept;
 pub use breach::Breach;
+pub use checks::checked_text;
 pub use command::{Command, Taken, find, tell};
 pub use files::bytes_at;
 pub use moment::moment_text;

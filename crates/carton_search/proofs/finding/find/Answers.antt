@@ -6,7 +6,7 @@ use Rattle.carton_search.specs.declared.exploring.Outcome.{Outcome}
 use Rattle.carton_search.specs.Knowledge.{Knowledge}
 use Rattle.carton_search.specs.Turns.{IsOutcome}
 use Rattle.carton_search.proofs.Lists.{get_within}
-use Rattle.carton_search.proofs.Plans.{Born, arrival_tree, found_end, turns_end}
+use Rattle.carton_search.proofs.Plans.{Born, arrival_tree, found_end, none_end, turns_end}
 use Rattle.carton_search.proofs.Verdicts.{clear_state}
 use Rattle.carton_search.proofs.finding.find.Goals as goal
 
@@ -46,6 +46,14 @@ returns-in-Arrived-clause-end g c =
     found_end task carton c.requires.rules k number a c.creases.inside.items.items (c.creases.view_is
     ∙ c.in_ok-known.ensures.creases) c.from_vec.result born
     (clear_state carton task.start c.in_default.ensures.verdict)
+
+pub returns-in-NoWay-clause-end : goal.returns-in-NoWay-clause-end
+returns-in-NoWay-clause-end g c =
+    let task = c.args.task.now in
+    let carton = g.J.Judge.carton c.args.judge.now in
+    let k = c.explore.new.known in
+    let o = outcome_is task _ carton k _ _ c.state.ensures.carton c.in-NoWay.is c.in_ok-number.ensures.outcome in
+    none_end task carton c.requires.rules k o (clear_state carton task.start c.in_default.ensures.verdict)
 
 pub returns-clause-end : goal.returns-clause-end
 returns-clause-end g c =
