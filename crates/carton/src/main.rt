@@ -33,7 +33,7 @@ fn play<W: Write + Drop>(rt: &(impl Env + AllocGlobal), files: &impl Files, out:
         Ok(words) => run(rt.alloc(), &words, &mut shelf, &mut sink),
         Err(AllocError) => Status::NoMemory,
     };
-    status as u8
+    status.number()
 }
 
 fn main(rt: HostRuntime) -> ExitCode {

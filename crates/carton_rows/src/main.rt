@@ -44,7 +44,7 @@ fn play<S: Shelf>(alloc: Global, words: &[&str], shelf: &mut S) -> Result<Played
     let status = run(alloc, &words, shelf, &mut sink);
     Ok(Played {
         text: Vec::from_slice(alloc, sink.bytes())?,
-        status: status as u8,
+        status: status.number(),
     })
 }
 

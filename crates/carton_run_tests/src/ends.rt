@@ -103,6 +103,6 @@ fn numbers_of_statuses(rt: HostRuntime) {
         (Status::OutOfTurns, 6),
         (Status::NoMemory, 7),
     ] {
-        assert_eq!(rt; status as u8, number);
+        assert_eq!(rt; status.number(), number);
     }
 }

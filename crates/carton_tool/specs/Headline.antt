@@ -26,24 +26,24 @@ asks verb files = record { verb = verb; given = map a_file files }
 
 -- the names of a dieline's and of a job's file
 abbrev pub dieline_and_job : List ℕ → List ℕ → List Named
-dieline_and_job dieline job = record { kind = Dieline; name = dieline } ∷ record { kind = Job; name = job }
-    ∷ []
+dieline_and_job dieline job =
+    record { kind = Dieline; name = dieline } ∷ record { kind = Job; name = job } ∷ []
 
 -- and of a plan's
 abbrev pub and_plan : List ℕ → List ℕ → List ℕ → List Named
-and_plan dieline job plan = record { kind = Dieline; name = dieline } ∷ record { kind = Job; name = job }
+and_plan dieline job plan =
+    record { kind = Dieline; name = dieline } ∷ record { kind = Job; name = job }
     ∷ record { kind = PlanFile; name = plan } ∷ []
 
 -- the plan goes from the start of the task to its target, and at the first state and at every moment of every
--- move no two shrunk panels of
--- the carton that share no crease meet
+-- move no two shrunk panels of the carton that share no crease meet
 abbrev pub IsSafe : Setup → Plan → Type 0
 IsSafe s plan = IsSound s.carton s.task plan
 
 -- no path on which all panels that share no crease stay parted by more than the slack has fewer moves
 abbrev pub HasFewestMoves : Setup → Plan → Type 0
-HasFewestMoves s plan = (path : List State) → IsSlackPath s.task s.carton path → moves_of plan.states
-    ≤ moves_of path
+HasFewestMoves s plan =
+    (path : List State) → IsSlackPath s.task s.carton path → moves_of plan.states ≤ moves_of path
 
 -- the bytes are those of a carton and of a task on it, exactly the one spelling of a plan was written, and P
 -- holds of them and the plan

@@ -3,3 +3,4 @@ pub mod Files
 pub mod Headline
 pub mod Reading
 pub mod Saying
+pub mod Statuses

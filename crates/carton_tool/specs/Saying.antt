@@ -41,8 +41,8 @@ IsSaidOf c files said = (outcome : Result ToldText BadFile) × tells c files out
 -- what is said to a command: the first file that is too long is told before any is looked at
 abbrev pub IsSaidTo : Command → List (List ℕ) → Said → Type 0
 IsSaidTo c files said = (length files ≡ length (files_of c))
-    × MatchOption (first_long (files_of c) files) (IsSaidOf c files said) (λ kind. said
-    ≡ says (Err (record { kind = kind; rule = TooLong })))
+    × MatchOption (first_long (files_of c) files) (IsSaidOf c files said)
+    (λ kind. said ≡ says (Err (record { kind = kind; rule = TooLong })))
 
 -- what is said to any words: `bad words` where they are no command
 abbrev pub IsSaid : List (List ℕ) → List (List ℕ) → Said → Type 0
@@ -59,8 +59,8 @@ Answers words files text status = (said : Said) × IsSaid words files said × (t
 abbrev pub IsDetermined : List (List ℕ) → Type 0
 IsDetermined words = (files : List (List ℕ)) (text other : List ℕ) (status another : Status)
     → ((c : Command) → IsCommand words c → IsFunction c.verb) ⊎ (status ≡ BadFiles)
-    → Answers words files text status → Answers words files other another → (text ≡ other)
-    × (status ≡ another)
+    → Answers words files text status → Answers words files other another
+    → (text ≡ other) × (status ≡ another)
 
 -- these may be the files that the words name: they have the told bytes, and one is too long exactly where the
 -- last read had too many bytes

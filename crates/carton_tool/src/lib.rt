@@ -3,14 +3,12 @@
 
 mod files;
 mod halt;
-mod printed;
 mod said;
 mod status;
 mod steady;
 mod tool;
 mod verbs;
 
-pub use printed::{Printed, run_into};
 pub use status::Status;
 pub use steady::run_steadily;
 pub use tool::run;

@@ -1,5 +1,6 @@
 ghost use Rattle.std.specs.Prelude.{◌≡◌};
 ghost use Rattle.carton_tool.specs.Saying.{status_of};
+ghost use Rattle.carton_tool.specs.Statuses.{number_of};
 
 use crate::said::Ended;
 use carton_setup::Ending;
@@ -15,6 +16,15 @@ pub enum Status {
     WriteFault = 5,
     OutOfTurns = 6,
     NoMemory = 7,
+}
+
+impl Status {
+    /// The exit status of the program.
+    pub fn number(self) -> u8
+        ensures { result ≡ number_of self }
+    {
+        self as u8
+    }
 }
 
 /// The status that goes with how something was said.
