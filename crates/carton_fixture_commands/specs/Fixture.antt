@@ -1,10 +1,11 @@
 -- What `fixture` tells: a fixture for a plan, or why none is made.
-use Rattle.std.specs.Prelude.{⊤, ℕ, List, ◌++◌, codes}
+use Rattle.std.specs.Prelude.{⊤, ◌≡◌, ℕ, List, ◌++◌, codes, Ok}
 use Rattle.carton_check.specs.declared.checked.Checked.{Checked}
 use Rattle.carton_fixture.specs.Answers.{IsFailure, IsMade, IsRefusal}
 use Rattle.carton_fixture.specs.declared.answers.UnheldEnd.{UnheldEnd}
 use Rattle.carton_fixture_text.specs.FixtureRules.{IsFixture}
 use Rattle.carton_fixture_text.specs.FixtureTexts.{spelling}
+use Rattle.carton_fixture_text.specs.declared.fixture.Fixture.{Fixture}
 use Rattle.carton_setup.specs.Checks.{checked_text}
 use Rattle.carton_setup.specs.Outcomes.{Outcomes, ◌>>=◌, gives, values}
 use Rattle.carton_setup.specs.Printed.{line}
@@ -49,3 +50,9 @@ tells_fixture files = do
   s ← supplies files
   made ← values (IsMadeFor s)
   gives (told_fixture s.setup.task.stride made)
+
+-- the text is the spelling of a fixture that is made for what the bytes of the files supply: it is good for the
+-- plan, and none of its bodies can be left out
+abbrev pub IsSpellingOfMade : List (List ℕ) → List ℕ → Type 0
+IsSpellingOfMade files text = (s : Supply) × (f : Fixture) × supplies files (Ok s)
+    × IsMade s.setup.carton s.setup.task s.plan s.catalogue f × (text ≡ spelling f)

@@ -1,6 +1,7 @@
 -- What `verify` tells: whether a fixture is good for a plan, or the first fault.
-use Rattle.std.specs.Prelude.{ℕ, List, ◌++◌, codes}
+use Rattle.std.specs.Prelude.{ℕ, List, ◌++◌, codes, Ok}
 use Rattle.carton_fixture.specs.Answers.{IsVerified}
+use Rattle.carton_fixture.specs.Fixtures.{IsGoodFixture}
 use Rattle.carton_fixture.specs.declared.answers.Verified.{Verified}
 use Rattle.carton_fixture.specs.declared.answers.Verified.TheVariants.{PlanFails, OtherStroke, NotCandidate}
 use Rattle.carton_fixture.specs.declared.answers.Verified.TheVariants.{Touches, Unheld, Holds}
@@ -66,3 +67,8 @@ tells_verify files = do
   c ← claims files
   verified ← values (IsVerifiedFor c)
   gives (told_verified c.supply.setup.task.stride verified)
+
+-- the bytes of the files are those of a fixture that is good for what the others supply
+abbrev pub AreOfGood : List (List ℕ) → Type 0
+AreOfGood files = (c : Claim) × claims files (Ok c)
+    × IsGoodFixture c.supply.setup.carton c.supply.setup.task c.supply.plan c.supply.catalogue c.fixture

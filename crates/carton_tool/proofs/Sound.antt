@@ -42,31 +42,39 @@ three_files holds dieline job plan d j p (a ∷ b ∷ c ∷ []) e f g told =
     let third : c ≡ p = subst (λ o. IfSome o (λ bytes. c ≡ bytes)) g told.1.1.0 in
     λ i. first i ∷ second i ∷ third i ∷ []
 
--- a command of which done is told only where the plan is sound
-abbrev IsOnlySound : Command → Type 0
-IsOnlySound c = (files : List (List ℕ)) (told : ToldText) → tells c files (Ok told) → IsDoneOfSound files told
+-- a command that tells done only where P holds of the bytes of its files and of the text
+abbrev pub IsOnly : Command → (List (List ℕ) → List ℕ → Type 0) → Type 0
+IsOnly c P = (files : List (List ℕ)) (told : ToldText) → tells c files (Ok told) → told.ending ≡ ToldDone
+    → P files told.text
 
 same_ending : (a b : Ending) → Told a ≡ Told b → a ≡ b
 same_ending a b e = cc
 
-sound_outcome : (c : Command) (files : List (List ℕ)) (said : Said) (outcome : Result ToldText BadFile)
-    → IsOnlySound c → tells c files outcome → said ≡ says outcome → said.ended ≡ Told ToldDone
-    → AreSound files
-sound_outcome c files said (Ok told) only t is done =
+done_outcome : (c : Command) (files : List (List ℕ)) (said : Said) (outcome : Result ToldText BadFile)
+    (P : List (List ℕ) → List ℕ → Type 0) → IsOnly c P → tells c files outcome → said ≡ says outcome
+    → said.ended ≡ Told ToldDone → P files said.text
+done_outcome c files said (Ok told) P only t is done =
     let ended = ap (λ (s : Said). s.ended) is in
-    only files told t (same_ending told.ending ToldDone (sym ended ∙ done))
-sound_outcome c files said (Err file) only t is done = let ended = ap (λ (s : Said). s.ended) is in
-    absurd (cc)
+    subst (P files) (sym (ap (λ (s : Said). s.text) is))
+    (only files told t (same_ending told.ending ToldDone (sym ended ∙ done)))
+done_outcome c files said (Err file) P only t is done =
+    let ended = ap (λ (s : Said). s.ended) is in absurd (cc)
 
-sound_saying : (c : Command) (files : List (List ℕ)) (said : Said) → IsOnlySound c → IsSaidTo c files said
-    → said.ended ≡ Told ToldDone → AreSound files
-sound_saying c files said only h done = by_length (first_long (files_of c) files) h.1
+-- so it holds where done is said to the command
+pub done_saying : (c : Command) (files : List (List ℕ)) (said : Said) (P : List (List ℕ) → List ℕ → Type 0)
+    → IsOnly c P → IsSaidTo c files said → said.ended ≡ Told ToldDone → P files said.text
+done_saying c files said P only h done = by_length (first_long (files_of c) files) h.1
   where
     by_length : (first : Option FileKind)
-        → MatchOption first (IsSaidOf c files said) (λ kind. said
-        ≡ says (Err (record { kind = kind; rule = TooLong }))) → AreSound files
+        → MatchOption first (IsSaidOf c files said)
+        (λ kind. said ≡ says (Err (record { kind = kind; rule = TooLong })))
+        → P files said.text
     by_length (Some kind) is = let ended = ap (λ (s : Said). s.ended) is in absurd (cc)
-    by_length None is = sound_outcome c files said is.0 only is.1 is.2 done
+    by_length None is = done_outcome c files said is.0 P only is.1 is.2 done
+
+-- a command of which done is told only where the plan is sound
+abbrev IsOnlySound : Command → Type 0
+IsOnlySound c = (files : List (List ℕ)) (told : ToldText) → tells c files (Ok told) → IsDoneOfSound files told
 
 sound_command : (holds : List ℕ → Option (List ℕ)) (had : ℕ) (words files : List (List ℕ)) (said : Said)
     (c : Command) (dieline job plan d j p : List ℕ)
@@ -78,7 +86,8 @@ sound_command holds had words files said c dieline job plan d j p are is done on
     subst AreSound
     (three_files holds dieline job plan d j p files e f g
     (subst (λ ns. AreTold holds ns files) names (are.told c command)))
-    (sound_saying c files said only (own_saying words files c said command is) (is_done said.ended done))
+    (done_saying c files said (λ bytes text. AreSound bytes) only (own_saying words files c said command is)
+    (is_done said.ended done))
 
 -- where done is told, the bytes of the files are those of a sound plan
 pub sound_where_done : (holds : List ℕ → Option (List ℕ)) (had : ℕ) (words files : List (List ℕ))

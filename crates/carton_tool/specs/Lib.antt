@@ -1,5 +1,6 @@
 pub mod Answers
 pub mod Files
+pub mod Fixtures
 pub mod Headline
 pub mod Reading
 pub mod Saying

@@ -4,6 +4,7 @@ ghost use Rattle.carton_io.specs.Told.{raised, Rose, GrewInPart};
 ghost use Rattle.carton_words.specs.Asked.{asked};
 ghost use Rattle.carton_words.specs.Commands.{Command, IsCommand, IsNoCommand};
 ghost use Rattle.carton_words.specs.Words.{texts};
+ghost use Rattle.carton_tool.specs.Fixtures.{TellsMadeFixture, TellsGoodFixture};
 ghost use Rattle.carton_tool.specs.Headline.{IsSafe, HasFewestMoves, TellsPlanWith, IsFoundInReach};
 ghost use Rattle.carton_tool.specs.Headline.{IsOfSound, TellsMade};
 ghost use Rattle.carton_tool.specs.Saying.{status_of, IsSaidOf, IsSaid, AreFiles, IsAnswered, IsDetermined};
@@ -132,6 +133,14 @@ pub fn run<S: Shelf, K: Sink>(
     // Of made dielines and jobs exactly what may come of planning for them is told.
     ensures made_sound { result ≡ Status.Done
         → TellsMade (texts words.now) (Appends (K.written sink.old) (K.written sink.new)) }
+
+    // A fixture is told only where it is made for the told plan, and to be good only where it is.
+    ensures fixture_good { result ≡ Status.Done
+        → TellsMadeFixture (S.holds shelf.old) (texts words.now) (Appends (K.written sink.old)
+        (K.written sink.new)) }
+    ensures verified_good { result ≡ Status.Done
+        → TellsGoodFixture (S.holds shelf.old) (texts words.now) (Appends (K.written sink.old)
+        (K.written sink.new)) }
 
     // The words and the bytes of the files that they name determine the text and the status.
     ensures determined { IsDetermined (texts words.now) }
