@@ -24,7 +24,7 @@ pub use ids::{EdgeId, PanelId, Stop};
 pub use limits::{
     FARTHEST, LEAST_CORNERS, LONGEST_PATH, MOST_BYTES, MOST_CORNERS, MOST_EDGES, MOST_HALVINGS,
     MOST_JOINTS, MOST_PANELS, MOST_STATES, MOST_TEAMS, MOST_TURNS, MOST_VERTICES, WIDEST_MARGIN,
-    WIDEST_SLACK, WIDEST_STEP,
+    WIDEST_SLACK, WIDEST_STEP, limits_in_numbers,
 };
 pub use listed::Listed;
 pub use moments::{Moment, Piece};

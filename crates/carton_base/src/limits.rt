@@ -1,3 +1,5 @@
+ghost use Rattle.std.specs.Prelude.{◌≡◌};
+
 /// The most bytes of a file.
 pub const MOST_BYTES: usize = 1_048_576;
 
@@ -45,3 +47,11 @@ pub const WIDEST_STEP: u8 = 4;
 
 /// How often a move may be halved.
 pub const MOST_HALVINGS: u8 = 36;
+
+/// Each limit as a number.
+pub fn limits_in_numbers()
+    ensures numbers { (MOST_BYTES ≡ 1048576) × (MOST_VERTICES ≡ 1024) × (MOST_EDGES ≡ 2048) × (MOST_PANELS ≡ 24) ×
+        (LEAST_CORNERS ≡ 3) × (MOST_CORNERS ≡ 32) × (FARTHEST ≡ 8191) × (LONGEST_PATH ≡ 8) ×
+        (WIDEST_MARGIN ≡ 1000) × (WIDEST_SLACK ≡ 1000) × (MOST_TEAMS ≡ 12) × (MOST_TURNS ≡ 100000) ×
+        (MOST_STATES ≡ 4096) × (MOST_JOINTS ≡ 24) × (WIDEST_STEP ≡ 4) × (MOST_HALVINGS ≡ 36) }
+{}

@@ -5,3 +5,4 @@ pub mod Misfits
 pub mod Bands
 pub mod OneFit
 pub mod SameFit
+pub mod CataloguesSpelled

@@ -7,6 +7,7 @@ use Rattle.carton_base.specs.declared.bodies.Guide.{Guide}
 use Rattle.carton_base.specs.declared.motion.State.{State}
 use Rattle.carton_text.specs.declared.plan.Plan.{Plan}
 use Rattle.carton_text.specs.declared.task.Task.{Task}
+use Rattle.carton_text.specs.TaskPlans.{HasCreases}
 use Rattle.carton_tree.proofs.Flaps.{one_flap as one_place}
 use Rattle.carton_tree.proofs.OneRefusal.{least_once}
 use Rattle.carton_tree.specs.Rules.{IsLeast}
@@ -19,7 +20,7 @@ use Rattle.carton_catalogue.specs.declared.fit_error.Misfit.{Misfit}
 use Rattle.carton_catalogue.specs.declared.fit_error.Misfit.TheVariants.{Joint as NoJoint, Window, Band}
 use Rattle.carton_catalogue.specs.declared.fit_error.Misfit.TheVariants.{Probe}
 use Rattle.carton_catalogue.specs.Fits.{IsGuided, KeepsBand, IsOnPanel, IsOutside, FitsGuide, IsMisfit}
-use Rattle.carton_catalogue.specs.Fits.{HasCreases, Fits, IsFirstMisfit, IsRefusedBy, IsRefusal}
+use Rattle.carton_catalogue.specs.Fits.{Fits, IsFirstMisfit, IsRefusedBy, IsRefusal}
 use Rattle.carton_catalogue.specs.FitSteps.{told_of}
 use Rattle.carton_catalogue.proofs.Misfits.{not_outside, some_at}
 

@@ -10,6 +10,7 @@ use Rattle.carton_panels.specs.Shrinking.{InShrunk}
 use Rattle.carton_place.specs.States.{fold_in}
 use Rattle.carton_text.specs.declared.plan.Plan.{Plan}
 use Rattle.carton_text.specs.declared.task.Task.{Task}
+use Rattle.carton_text.specs.TaskPlans.{HasCreases}
 use Rattle.carton_tree.specs.Rules.{IsLeast}
 use Rattle.carton_tree.specs.Trees.{Tree, joint_of, Hangs}
 use Rattle.carton_catalogue.specs.declared.catalogue.Catalogue.{Catalogue}
@@ -79,10 +80,6 @@ IsMisfit t states g Band = (flap k : ℕ) × IsGuided t g.edge.0 flap k × HasWi
     × ¬ (KeepsBand states g k)
 IsMisfit t states g (Probe p) = (flap k : ℕ) × IsGuided t g.edge.0 flap k × HasWindow states g
     × KeepsBand states g k × IsLeast (IsOutside (IsOnPanel t flap) g.probes) p
-
--- the plan has the task's creases
-abbrev pub HasCreases : Task → Plan → Type 0
-HasCreases task plan = plan.creases ≡ task.creases
 
 -- the catalogue fits: the plan has the task's creases, and all guides fit
 pub record Fits (t : Tree) (task : Task) (plan : Plan) (c : Catalogue) : Type 0 where

@@ -3,3 +3,4 @@ pub mod Catalogues
 pub mod CatalogueRules
 pub mod Fits
 pub mod FitSteps
+pub mod CatalogueSpelling

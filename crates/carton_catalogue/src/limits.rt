@@ -1,3 +1,5 @@
+ghost use Rattle.std.specs.Prelude.{◌≡◌};
+
 /// How far from the origin a side of a body may lie along an axis, either way; and how far bodies may
 /// be displaced along an axis in one move, and from one body of a row to the next.
 pub const FARTHEST_CORNER: u32 = 100_000;
@@ -19,3 +21,9 @@ pub const LAST_MOVE: u64 = 4094;
 
 /// The widest band of a guide, in eighths of a right angle. The narrowest is 1.
 pub const WIDEST_BAND: u64 = 16;
+
+/// Each limit as a number.
+pub fn limits_in_numbers()
+    ensures numbers { (FARTHEST_CORNER ≡ 100000) × (MOST_BODIES ≡ 256) × (MOST_GUIDES ≡ 16) × (MOST_PROBES ≡ 8) ×
+        (LAST_EDGE ≡ 2047) × (LAST_MOVE ≡ 4094) × (WIDEST_BAND ≡ 16) }
+{}

@@ -11,6 +11,8 @@ use Rattle.carton_tree.specs.Cartons.{IsCarton}
 use Rattle.carton_tree.specs.Trees.{Tree}
 use Rattle.carton_text.specs.declared.plan.Plan.{Plan}
 use Rattle.carton_text.specs.declared.task.Task.{Task}
+use Rattle.carton_text.specs.PlanMoves.{folds_between}
+use Rattle.carton_text.specs.TaskPlans.{HasMoves}
 use Rattle.carton_part.specs.Parted.{AreAllParted}
 use Rattle.carton_part.specs.Points.{HaveDens}
 use Rattle.carton_part.proofs.Less.{parted_by_less}
@@ -18,8 +20,8 @@ use Rattle.carton_part.proofs.Seen.{parted_apart}
 use Rattle.carton_check.specs.declared.checked.Checked.{Checked}
 use Rattle.carton_check.specs.declared.checked.Checked.TheVariants.{WrongCreases, WrongStart, WrongEnd}
 use Rattle.carton_check.specs.declared.checked.Checked.TheVariants.{NotOneStop, Blocked, Holds}
-use Rattle.carton_check.specs.Checks.{HasMoves, IsBlockedAt, IsChecked}
-use Rattle.carton_check.specs.Sound.{NoneMeet, IsSound, KeepsApart, folds_between}
+use Rattle.carton_check.specs.Checks.{IsBlockedAt, IsChecked}
+use Rattle.carton_check.specs.Sound.{NoneMeet, IsSound, KeepsApart}
 use Rattle.carton_check.specs.Steps.{AreJudged}
 
 -- what is told of the states of a plan with the right ends and moves is the answer

@@ -17,9 +17,8 @@ use Rattle.carton_part.specs.Parted.{ArePartedBy, AreAllParted}
 use Rattle.carton_part.proofs.Finer.{still}
 use Rattle.carton_part.proofs.Still.{clear_still, blocked_still}
 use Rattle.carton_check.specs.Checks.{IsBlockedAt, DoHold}
-use Rattle.carton_check.specs.Sound.{IsMove, folds_between}
-use Rattle.carton_check.specs.Steps.{AreMoves}
-use Rattle.carton_check.proofs.Moves.{of_move}
+use Rattle.carton_text.specs.PlanMoves.{IsMove, folds_between, AreMoves}
+use Rattle.carton_text.proofs.PlanMoves.{of_move}
 
 -- a single state whose panels keep apart
 pub holds_alone : (t : Tree) (s : State) → StayAllParted t (still s) (pos 0) → DoHold t (s ∷ []) 0

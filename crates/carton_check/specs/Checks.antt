@@ -6,36 +6,15 @@ use Rattle.carton_place.specs.States.{fold_in}
 use Rattle.carton_tree.specs.Trees.{Tree}
 use Rattle.carton_text.specs.declared.plan.Plan.{Plan}
 use Rattle.carton_text.specs.declared.task.Task.{Task}
+use Rattle.carton_text.specs.PlanMoves.{IsFirst, IsLast, IsMove, folds_between}
+use Rattle.carton_text.specs.TaskPlans.{HasCreases, HasStart, HasEnds, IsFine, HasMoves}
 use Rattle.carton_part.specs.Answers.{IsHalvedMoment}
 use Rattle.carton_part.specs.Beginnings.{IsBeginning}
 use Rattle.carton_part.specs.Parted.{AreStrangers, ArePartedBy}
 use Rattle.carton_check.specs.declared.checked.Checked.{Checked}
 use Rattle.carton_check.specs.declared.checked.Checked.TheVariants.{WrongCreases, WrongStart, WrongEnd}
 use Rattle.carton_check.specs.declared.checked.Checked.TheVariants.{NotOneStop, Blocked, Holds}
-use Rattle.carton_check.specs.Sound.{IsFirst, IsLast, IsMove, IsStrideFrom, folds_between, KeepsApart}
-
--- the plan has the task's creases
-abbrev pub HasCreases : Task → Plan → Type 0
-HasCreases task plan = plan.creases ≡ task.creases
-
--- and it begins with the task's start
-abbrev pub HasStart : Task → Plan → Type 0
-HasStart task plan = HasCreases task plan × IsFirst plan.states task.start
-
--- and it ends with the task's target
-abbrev pub HasEnds : Task → Plan → Type 0
-HasEnds task plan = HasStart task plan × IsLast plan.states task.target
-
--- move i, if there is one, changes no stop of so many joints by more than the stride
-abbrev pub IsFineMove : ℕ → ℕ → List State → ℕ → Type 0
-IsFineMove joints stride states i = (s r : State) → IsMove states i s r → IsStrideFrom joints stride s r
-
-abbrev pub IsFine : Task → Plan → ℕ → Type 0
-IsFine task plan i = IsFineMove (length task.creases) task.stride plan.states i
-
--- and no move changes a stop by more than the task's stride
-abbrev pub HasMoves : Task → Plan → Type 0
-HasMoves task plan = HasEnds task plan × ((i : ℕ) → IsFine task plan i)
+use Rattle.carton_check.specs.Sound.{KeepsApart}
 
 -- at this moment of move i panels a and b aren't parted by more than half the slack
 abbrev pub IsBlockedMove : Tree → ℕ → List State → ℕ → ℕ → ℕ → Moment → Type 0

@@ -1,9 +1,10 @@
 ghost use Rattle.std.specs.Prelude.{◌≡◌, ℕ, pos, ◌*ℤ◌, IfSome, None};
 ghost use Rattle.carton_text.specs.PlanRules.{IsPlan};
 ghost use Rattle.carton_text.specs.TaskRules.{IsTask};
+ghost use Rattle.carton_text.specs.TaskPlans.{HasMoves};
 ghost use Rattle.carton_tree.specs.Cartons.{IsCarton};
 ghost use Rattle.carton_tree.specs.Trees.{Tree};
-ghost use Rattle.carton_check.specs.Checks.{IsChecked, HasMoves};
+ghost use Rattle.carton_check.specs.Checks.{IsChecked};
 ghost use Rattle.carton_check.specs.Sound.{IsSound, KeepsApart};
 
 use crate::checked::Checked;

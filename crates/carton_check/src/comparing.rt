@@ -1,5 +1,5 @@
 ghost use Rattle.std.specs.Prelude.{◌≡◌, ◌↔◌, IsTrue};
-ghost use Rattle.carton_check.specs.Sound.{IsFirst, IsLast};
+ghost use Rattle.carton_text.specs.PlanMoves.{IsFirst, IsLast};
 
 use carton_base::{EdgeId, State};
 

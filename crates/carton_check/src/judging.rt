@@ -1,13 +1,14 @@
 ghost use Rattle.std.specs.Prelude.{[], ◌∷◌, ◌≤◌, length};
 ghost use Rattle.carton_base.specs.declared.limits.TheConstants.{MOST_JOINTS, WIDEST_SLACK};
 ghost use Rattle.carton_model.specs.Moves.{IsState};
-ghost use Rattle.carton_check.specs.Steps.{AreJudged, AreMoves};
+ghost use Rattle.carton_text.specs.PlanMoves.{AreMoves};
+ghost use Rattle.carton_check.specs.Steps.{AreJudged};
 
 use crate::checked::Checked;
-use crate::strides::move_at;
 use carton_base::{Moment, Motion, State};
 use carton_fix::Fix;
 use carton_part::{Verdict, judge_motion};
+use carton_text::move_at;
 use carton_tree::Carton;
 
 // What is told of a single state.

@@ -9,4 +9,3 @@ mod strides;
 
 pub use checked::Checked;
 pub use checking::check;
-pub use strides::move_at;

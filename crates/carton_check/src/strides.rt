@@ -1,10 +1,9 @@
-ghost use Rattle.std.specs.Prelude.{◌+◌, ◌<◌, ◌≤◌, length, ◌↔◌, IsTrue};
+ghost use Rattle.std.specs.Prelude.{◌≤◌, length, ◌↔◌, IsTrue};
 ghost use Rattle.carton_base.specs.declared.limits.TheConstants.{MOST_JOINTS, MOST_STATES};
-ghost use Rattle.carton_model.specs.Moves.{IsMotion};
-ghost use Rattle.carton_check.specs.Sound.{IsMove, IsStrideFrom};
-ghost use Rattle.carton_check.specs.Steps.{AreMoves, IsFirstWide};
+ghost use Rattle.carton_text.specs.PlanMoves.{IsStrideFrom};
+ghost use Rattle.carton_check.specs.Steps.{IsFirstWide};
 
-use carton_base::{Motion, State};
+use carton_base::State;
 
 // Whether each of the first so many stops changes by at most the stride.
 fn is_within_stride(joints: usize, stride: u8, from: &State, to: &State) -> bool
@@ -32,17 +31,4 @@ pub fn first_wide(joints: usize, stride: u8, states: &[State]) -> Option<u32>
         }
     }
     None
-}
-
-/// Move i of the states.
-pub fn move_at(states: &[State], i: usize) -> Motion
-    requires moves { AreMoves states.now }
-    requires inside { i + 1 < length states.now }
-    ensures is { IsMove states.now i result.from result.to }
-    ensures motion { IsMotion MOST_JOINTS result }
-{
-    Motion {
-        from: states[i],
-        to: states[i + 1],
-    }
 }

@@ -3,12 +3,12 @@ use Rattle.std.proofs.Common.{◌≡◌, ℕ, ◌<◌, pos, Bool, false, List, l
 use Rattle.std.proofs.Common.{arith}
 use Rattle.carton_catalogue.specs.declared.catalogue.Catalogue.{Catalogue}
 use Rattle.carton_catalogue.specs.CatalogueRules.{IsBody}
-use Rattle.carton_check.proofs.Moves.{at_place}
 use Rattle.carton_fixture_text.specs.declared.fixture.Fixture.{Fixture}
 use Rattle.carton_fixture_text.specs.declared.fixture.FixtureBody.{FixtureBody}
 use Rattle.carton_fixture_text.specs.FixtureRules.{IsFixtureBody}
 use Rattle.carton_text.specs.declared.plan.Plan.{Plan}
 use Rattle.carton_text.specs.declared.task.Task.{Task}
+use Rattle.carton_text.proofs.PlanMoves.{at_place}
 use Rattle.carton_tree.specs.Trees.{Tree}
 use Rattle.carton_fixture.specs.Answers.{IsMade}
 use Rattle.carton_fixture.specs.Choices.{boxes, each_of, each_but}

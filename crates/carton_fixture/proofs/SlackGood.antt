@@ -9,7 +9,6 @@ use Rattle.carton_bodies.specs.Boxes.{faces}
 use Rattle.carton_catalogue.specs.declared.catalogue.Catalogue.{Catalogue}
 use Rattle.carton_check.specs.declared.checked.Checked.{Checked}
 use Rattle.carton_check.proofs.Implied.{clear_holds}
-use Rattle.carton_check.proofs.Moves.{at_place}
 use Rattle.carton_fixture_text.specs.declared.fixture.Fixture.{Fixture}
 use Rattle.carton_fixture_text.specs.declared.fixture.FixtureBody.{FixtureBody}
 use Rattle.carton_guide.specs.Notes.{IsWellHeld}
@@ -21,6 +20,7 @@ use Rattle.carton_stroke.specs.Notes.{IsTouching, IsNoteOf, AreNotesOf}
 use Rattle.carton_stroke.proofs.Noted.{slack_clear_told}
 use Rattle.carton_text.specs.declared.plan.Plan.{Plan}
 use Rattle.carton_text.specs.declared.task.Task.{Task}
+use Rattle.carton_text.proofs.PlanMoves.{at_place}
 use Rattle.carton_tree.specs.Trees.{Tree}
 use Rattle.carton_fixture.specs.declared.answers.Compiled.{Compiled}
 use Rattle.carton_fixture.specs.declared.answers.Compiled.TheVariants.{PlanFails, Made, Refused, Memory}

@@ -3,7 +3,6 @@ use Rattle.std.specs.Prelude.{ℕ, Bool, List, All, ⊤, pos, ◌*ℤ◌}
 use Rattle.carton_base.specs.declared.bodies.Cuboid.{Cuboid}
 use Rattle.carton_bodies.specs.Boxes.{faces}
 use Rattle.carton_catalogue.specs.declared.catalogue.Catalogue.{Catalogue}
-use Rattle.carton_check.specs.Checks.{HasMoves}
 use Rattle.carton_check.specs.Sound.{KeepsApart}
 use Rattle.carton_fixture_text.specs.declared.fixture.Fixture.{Fixture}
 use Rattle.carton_guide.specs.Holding.{IsChosen}
@@ -11,6 +10,7 @@ use Rattle.carton_guide.specs.Notes.{IsWellHeld}
 use Rattle.carton_stroke.specs.Clear.{IsSlackClearOf}
 use Rattle.carton_text.specs.declared.plan.Plan.{Plan}
 use Rattle.carton_text.specs.declared.task.Task.{Task}
+use Rattle.carton_text.specs.TaskPlans.{HasMoves}
 use Rattle.carton_tree.specs.Trees.{Tree}
 use Rattle.carton_fixture.specs.declared.answers.Compiled.{Compiled}
 use Rattle.carton_fixture.specs.declared.answers.Compiled.TheVariants.{PlanFails, Made, Refused, Memory}

@@ -4,15 +4,15 @@ use Rattle.std.specs.Prelude.{AllPairs, Any, Option, None, Some, ℤ}
 use Rattle.carton_base.specs.declared.bodies.Cuboid.{Cuboid}
 use Rattle.carton_base.specs.declared.limits.TheConstants.{WIDEST_SLACK}
 use Rattle.carton_bodies.specs.Boxes.{faces}
-use Rattle.carton_bodies.specs.Plans.{IsPlanOf}
 use Rattle.carton_catalogue.specs.declared.catalogue.Catalogue.{Catalogue}
 use Rattle.carton_catalogue.specs.CatalogueRules.{IsCatalogue}
+use Rattle.carton_catalogue.specs.Fits.{FitsGuide}
 use Rattle.carton_fixture_text.specs.declared.fixture.FixtureBody.{FixtureBody}
-use Rattle.carton_guide.specs.Guides.{IsFitting}
 use Rattle.carton_guide.specs.Holding.{IsChosen}
 use Rattle.carton_stroke.specs.Clear.{IsClearOf}
 use Rattle.carton_stroke.specs.Notes.{IsTouching}
 use Rattle.carton_text.specs.declared.plan.Plan.{Plan}
+use Rattle.carton_text.specs.TaskPlans.{IsPlanOf}
 use Rattle.carton_tree.specs.Trees.{Tree}
 use Rattle.carton_fixture.specs.declared.answers.UnheldEnd.{UnheldEnd}
 use Rattle.carton_fixture.specs.declared.answers.Verified.{Verified}
@@ -24,7 +24,7 @@ use Rattle.carton_fixture.specs.Fixtures.{HoldAll, IsUnheld}
 pub record IsReady (t : Tree) (plan : Plan) (c : Catalogue) (slack : ℕ) : Type 0 where
   pub plan_is : IsPlanOf t plan
   pub catalogue : IsCatalogue c
-  pub fits : All (IsFitting t plan.states) c.guides
+  pub fits : All (FitsGuide t plan.states) c.guides
   pub some : 1 ≤ slack
   pub narrow : slack ≤ WIDEST_SLACK
 

@@ -1,7 +1,7 @@
 ghost use Rattle.std.specs.Prelude.{◌≡◌, ◌≤◌, ◌↔◌, IsTrue, length, All};
 ghost use Rattle.carton_base.specs.declared.limits.TheConstants.{WIDEST_SLACK};
 ghost use Rattle.carton_bodies.specs.Boxes.{IsStroke};
-ghost use Rattle.carton_bodies.specs.Plans.{IsPlanOf};
+ghost use Rattle.carton_text.specs.TaskPlans.{IsPlanOf};
 ghost use Rattle.carton_fixture_text.specs.FixtureRules.{IsFixtureBody};
 ghost use Rattle.carton_fixture.specs.Choices.{IsCandidate};
 ghost use Rattle.carton_fixture.specs.Steps.{IsStrangerTold, IsTouchTold};

@@ -1,5 +1,5 @@
 -- What `fixture` tells: a fixture for a plan, or why none is made.
-use Rattle.std.specs.Prelude.{⊤, ◌≡◌, ℕ, List, ◌++◌, codes, Ok}
+use Rattle.std.specs.Prelude.{⊤, ◌≡◌, ◌⊎◌, ℕ, List, ◌++◌, codes, Ok}
 use Rattle.carton_check.specs.declared.checked.Checked.{Checked}
 use Rattle.carton_fixture.specs.Answers.{IsFailure, IsMade, IsRefusal}
 use Rattle.carton_fixture.specs.declared.answers.UnheldEnd.{UnheldEnd}
@@ -51,8 +51,25 @@ tells_fixture files = do
   made ← values (IsMadeFor s)
   gives (told_fixture s.setup.task.stride made)
 
--- the text is the spelling of a fixture that is made for what the bytes of the files supply: it is good for the
--- plan, and none of its bodies can be left out
+-- the text is the spelling of a fixture that is made for what the bytes of the files supply: it is good for
+-- the plan, and none of its bodies can be left out
 abbrev pub IsSpellingOfMade : List (List ℕ) → List ℕ → Type 0
 IsSpellingOfMade files text = (s : Supply) × (f : Fixture) × supplies files (Ok s)
     × IsMade s.setup.carton s.setup.task s.plan s.catalogue f × (text ≡ spelling f)
+
+-- the text is what a check says of the plan, with its cause, and the plan doesn't hold
+abbrev pub TellsFailure : Supply → List ℕ → Type 0
+TellsFailure s text = (checked : Checked) × IsFailure s.setup.carton s.setup.task s.plan checked
+    × (text ≡ plan_fails_text s.setup.task.stride checked)
+
+-- the text has for each candidate, in their order, that the plan clears it, or a panel that touches it in a
+-- move and when, and then an end of a guide that those which it clears don't hold well at a moment
+abbrev pub TellsNotHeld : Supply → List ℕ → Type 0
+TellsNotHeld s text = (bodies : List BodyNote) × (unheld : UnheldEnd)
+    × IsRefusal s.setup.carton s.setup.task s.plan s.catalogue bodies unheld
+    × (text ≡ not_held_text bodies unheld)
+
+-- the text tells why no fixture is made for what the bytes of the files supply
+abbrev pub IsTextOfRefusal : List (List ℕ) → List ℕ → Type 0
+IsTextOfRefusal files text =
+    (s : Supply) × supplies files (Ok s) × (TellsFailure s text ⊎ TellsNotHeld s text)

@@ -1,5 +1,5 @@
 -- What `verify` tells: whether a fixture is good for a plan, or the first fault.
-use Rattle.std.specs.Prelude.{ℕ, List, ◌++◌, codes, Ok}
+use Rattle.std.specs.Prelude.{⊤, ◌≡◌, ℕ, List, ◌++◌, codes, Ok}
 use Rattle.carton_fixture.specs.Answers.{IsVerified}
 use Rattle.carton_fixture.specs.Fixtures.{IsGoodFixture}
 use Rattle.carton_fixture.specs.declared.answers.Verified.{Verified}
@@ -72,3 +72,13 @@ tells_verify files = do
 abbrev pub AreOfGood : List (List ℕ) → Type 0
 AreOfGood files = (c : Claim) × claims files (Ok c)
     × IsGoodFixture c.supply.setup.carton c.supply.setup.task c.supply.plan c.supply.catalogue c.fixture
+
+-- each answer but that the fixture holds is a fault of it
+abbrev pub IsFault : Verified → Type 0
+IsFault (Holds bodies) = ⊥
+IsFault fault = ⊤
+
+-- the text tells a fault of the fixture for what the bytes of the files supply, with its cause
+abbrev pub IsTextOfFault : List (List ℕ) → List ℕ → Type 0
+IsTextOfFault files text = (c : Claim) × (fault : Verified) × claims files (Ok c) × IsFault fault
+    × IsVerifiedFor c fault × (text ≡ verified_text c.supply.setup.task.stride fault)

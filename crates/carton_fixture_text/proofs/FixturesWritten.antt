@@ -57,7 +57,7 @@ bodies_told f (b ∷ bodies) n are come =
 
 body_inner : (b : FixtureBody) → IsFixtureBody b → IsInner (words b)
 body_inner b is =
-    (line_lacks (codes "body") (numbers_of b) (lacks 10 (codes "body") refl) (numbers_small b is), refl)
+    (line_lacks 10 (omega arith) (codes "body") (numbers_of b) (lacks 10 (codes "body") refl) (numbers_small b is), refl)
 
 earlier : (before : List FixtureBody) (b : FixtureBody) (bodies : List FixtureBody)
     → AllPairs (λ x y. x.id < y.id) (before ++ b ∷ bodies) → All (λ c. c.id < b.id) before
@@ -83,7 +83,7 @@ stroke_words stroke = codes "stroke" ++ flat_map spaced stroke
 
 stroke_inner : (stroke : List ℤ) → IsStroke stroke → IsInner (stroke_words stroke)
 stroke_inner stroke is =
-    (line_lacks (codes "stroke") stroke (lacks 10 (codes "stroke") refl) (way_small stroke is), refl)
+    (line_lacks 10 (omega arith) (codes "stroke") stroke (lacks 10 (codes "stroke") refl) (way_small stroke is), refl)
 
 stroke_first : (stroke : List ℤ) (n : ℕ) → IsStroke stroke → fixture_line Headed n (stroke_words stroke)
     ≡ Ok (Within (record { stroke = stroke; bodies = [] }))

@@ -1,7 +1,14 @@
+ghost use Rattle.std.specs.Prelude.{◌≡◌};
+
 use carton_base::{Cuboid, Listed};
 
 /// The greatest number of a body.
 pub const LAST_BODY: u16 = 255;
+
+/// The limit as a number.
+pub fn limits_in_numbers()
+    ensures numbers { (LAST_BODY ≡ 255) }
+{}
 
 /// A body of a fixture: its number among the candidates, and its box at the first state of the plan,
 /// in dieline units.

@@ -6,6 +6,6 @@ mod fixture_lines;
 mod fixture_text;
 mod fixture_writing;
 
-pub use fixture::{Fixture, FixtureBody, LAST_BODY};
+pub use fixture::{Fixture, FixtureBody, LAST_BODY, limits_in_numbers};
 pub use fixture_text::read_fixture;
 pub use fixture_writing::write_fixture;

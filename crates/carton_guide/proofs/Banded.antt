@@ -5,7 +5,7 @@ use Rattle.std.proofs.lemmas.Int.{ints}
 use Rattle.carton_base.specs.declared.limits.TheConstants.{MOST_JOINTS, WIDEST_STEP}
 use Rattle.carton_base.specs.declared.motion.Motion.{Motion}
 use Rattle.carton_base.specs.declared.motion.State.{State}
-use Rattle.carton_check.specs.Sound.{IsStrideFrom}
+use Rattle.carton_text.specs.PlanMoves.{IsStrideFrom}
 use Rattle.carton_model.specs.Moves.{IsState, IsStop, IsStep, IsMotion, stop_of}
 use Rattle.carton_guide.specs.declared.note.End.{End}
 use Rattle.carton_guide.specs.declared.note.End.TheVariants.{Under, Over}

@@ -1,17 +1,29 @@
 -- What a plan of the carton and a fitting guide give for one move of the window.
 use Rattle.std.proofs.Common.{◌≡◌, ◌∙◌, refl, ap, sym, subst, inl, inr, ℕ, zero, suc, ◌+◌, ◌<◌, ◌≤◌, List, []}
-use Rattle.std.proofs.Common.{◌∷◌, length, get_or, slice_get, Bool, Some, ℤ, arith}
+use Rattle.std.proofs.Common.{◌∷◌, length, get_or, slice_get, Bool, Option, None, Some, IfSome, IsSomeAnd}
+use Rattle.std.proofs.Common.{ℤ, arith}
 use Rattle.std.specs.Prelude.{All}
 use Rattle.std.proofs.lemmas.Bool.{cases_lt}
-use Rattle.std.proofs.lemmas.Option.{slice_get-get_or}
+use Rattle.std.proofs.lemmas.List.Elements.{All-weaker}
+use Rattle.std.proofs.lemmas.Option.{slice_get-get_or, get_or_from_slice_get}
+use Rattle.carton_base.specs.declared.dieline.Point.{Point}
 use Rattle.carton_base.specs.declared.motion.State.{State}
-use Rattle.carton_check.specs.Sound.{IsMove}
+use Rattle.carton_text.specs.PlanMoves.{IsMove}
+use Rattle.carton_catalogue.specs.Fits.{IsGuided, HasRoomFor, KeepsBand, IsOnShape, IsOnPanel as LiesOnPanel}
+use Rattle.carton_catalogue.specs.Fits.{FitsGuide}
+use Rattle.carton_catalogue.proofs.Bands.{AreStops, ends_are_stops}
+use Rattle.carton_model.specs.Moves.{IsStop, stop_of}
+use Rattle.carton_panels.specs.Shapes.{Shape}
+use Rattle.carton_place.specs.States.{fold_in}
+use Rattle.carton_reach.specs.Spots.{no_shape}
 use Rattle.carton_tree.specs.Trees.{Tree}
 use Rattle.carton_base.specs.declared.bodies.Guide.{Guide}
 use Rattle.carton_base.specs.declared.bodies.Cuboid.{Cuboid}
 use Rattle.carton_guide.specs.declared.note.End.{End}
+use Rattle.carton_guide.specs.declared.note.End.TheVariants.{Under, Over}
 use Rattle.carton_guide.specs.Notes.{IsHeldThrough}
-use Rattle.carton_guide.specs.Guides.{IsFlap, IsFitting, IsOnPanel, StaysInBand}
+use Rattle.carton_guide.specs.Bands.{band_stops, shifted}
+use Rattle.carton_guide.specs.Guides.{IsOnPanel, StaysInBand}
 use Rattle.carton_guide.proofs.Flaps.{one_flap}
 
 -- a state that was read
@@ -26,17 +38,41 @@ element [] i l = absurd (omega (arith, l))
 element (s ∷ states) zero l = (s, refl)
 element (s ∷ states) (suc i) l = element states i (omega (arith, l))
 
--- the probes lie in the flap, and the place keeps the band, of whichever flap is the edge's
-pub on_flap : (t : Tree) (states : List State) (g : Guide) (flap place : ℕ) → IsFitting t states g
-    → IsFlap t g.edge.0 flap place → All (IsOnPanel t flap) g.probes
-on_flap t states g flap place fit h =
-    subst (λ p. All (IsOnPanel t p) g.probes) (one_flap t g.edge.0 fit.flap fit.place flap place fit.is_flap
-    h).0 fit.probes
+-- room for a band in eighths is room for it in stops
+pub band_at : (s : State) (k band : ℕ) (end : End) → AreStops s.grid band (stop_of s k)
+    → IsStop s.grid (shifted end (band_stops s.grid band) (stop_of s k))
+band_at s k band Under h = h.under
+band_at s k band Over h = h.over
 
-pub in_band : (t : Tree) (states : List State) (g : Guide) (flap place : ℕ) → IsFitting t states g
-    → IsFlap t g.edge.0 flap place → StaysInBand states g place
+pub stays_in_band : (states : List State) (g : Guide) (k : ℕ) → KeepsBand states g k → StaysInBand states g k
+stays_in_band states g k h i s from upto is =
+    λ end. band_at s k g.band end
+    (ends_are_stops s k g.band (subst (λ o. IfSome o (λ r. HasRoomFor g.band (fold_in r k))) is
+    (h i from upto)))
+
+-- a place on a panel lies in its shrunk shape
+pub on_panel : (t : Tree) (p : ℕ) (place : Point) → LiesOnPanel t p place → IsOnPanel t p place
+on_panel t p place h = by_shape (slice_get t.panels p) refl h
+  where
+    by_shape : (o : Option Shape) → slice_get t.panels p ≡ o → IsSomeAnd o (λ s. IsOnShape s place)
+        → IsOnPanel t p place
+    by_shape None e x = absurd x
+    by_shape (Some s) e x = subst (λ (r : Shape). IsOnShape r place)
+        (sym (get_or_from_slice_get t.panels p s no_shape e)) x
+
+-- the probes lie in the flap, and the place keeps the band, of whichever flap is the edge's
+pub on_flap : (t : Tree) (states : List State) (g : Guide) (flap place : ℕ) → FitsGuide t states g
+    → IsGuided t g.edge.0 flap place → All (IsOnPanel t flap) g.probes
+on_flap t states g flap place fit h =
+    let same = (one_flap t g.edge.0 fit.0 fit.1 flap place fit.2.joint h).0 in
+    All-weaker (LiesOnPanel t flap) (IsOnPanel t flap) (on_panel t flap) g.probes
+    (subst (λ p. All (LiesOnPanel t p) g.probes) same fit.2.probes)
+
+pub in_band : (t : Tree) (states : List State) (g : Guide) (flap place : ℕ) → FitsGuide t states g
+    → IsGuided t g.edge.0 flap place → StaysInBand states g place
 in_band t states g flap place fit h =
-    subst (StaysInBand states g) (one_flap t g.edge.0 fit.flap fit.place flap place fit.is_flap h).1 fit.band
+    subst (StaysInBand states g) (one_flap t g.edge.0 fit.0 fit.1 flap place fit.2.joint h).1
+    (stays_in_band states g fit.1 fit.2.band)
 
 -- the flap is held throughout the moves from the window's first one to before move k
 abbrev pub HeldFrom : Tree → List State → Guide → List ℤ → List Cuboid → List Bool → ℕ → ℕ → ℕ → Type 0

@@ -1,7 +1,3 @@
-pub mod Numbers
-pub mod Shifts
-pub mod Spots
-pub mod Depths
 pub mod Looks
 pub mod Flaps
 pub mod Fitting

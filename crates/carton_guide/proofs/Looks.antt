@@ -6,8 +6,8 @@ use Rattle.std.proofs.lemmas.Option.{slice_get_within, get_or_from_slice_get}
 use Rattle.carton_base.specs.declared.bodies.Cuboid.{Cuboid}
 use Rattle.carton_bodies.specs.Bodies.{IsDeeper}
 use Rattle.carton_bodies.specs.Boxes.{faces}
-use Rattle.carton_guide.specs.declared.spot.Spot.{Spot}
-use Rattle.carton_guide.specs.Depths.{ForEach}
+use Rattle.carton_bodies.specs.declared.spot.Spot.{Spot}
+use Rattle.carton_bodies.specs.Depths.{ForEach}
 use Rattle.carton_guide.specs.Holding.{IsChosen, IsDeepInNone}
 
 -- none of the first chosen bodies has the spot deeper than the gap

@@ -1,19 +1,14 @@
--- Guides of a carton: the flap that a guide is for, and when a guide fits a plan.
-use Rattle.std.specs.Prelude.{◌≡◌, ℕ, ◌+◌, ◌<◌, ◌≤◌, List, length, slice_get, All, Some, IsSomeAnd, pos}
+-- Moves of a guide's window, and what a guide that fits keeps at them, in stops of the grid.
+use Rattle.std.specs.Prelude.{◌≡◌, ℕ, ◌+◌, ◌≤◌, List, slice_get, Some, pos}
 use Rattle.carton_base.specs.declared.bodies.Guide.{Guide}
 use Rattle.carton_base.specs.declared.dieline.Point.{Point}
 use Rattle.carton_base.specs.declared.motion.State.{State}
 use Rattle.carton_model.specs.Moves.{IsStop, stop_of}
 use Rattle.carton_panels.specs.Shrinking.{InShrunk}
 use Rattle.carton_reach.specs.Spots.{shape_at}
-use Rattle.carton_tree.specs.Trees.{Tree, IsChild, joint_of}
+use Rattle.carton_tree.specs.Trees.{Tree}
 use Rattle.carton_guide.specs.declared.note.End.{End}
 use Rattle.carton_guide.specs.Bands.{band_stops, shifted}
-
--- panel `flap` hangs by the edge, and this joint is the free one at the place of the states
-pub record IsFlap (t : Tree) (edge flap place : ℕ) : Type 0 where
-  pub child : IsChild t.joints edge (Some (record { 0 = flap }))
-  pub free : IsSomeAnd (joint_of t.joints flap) (λ j. j.turn.place ≡ Some place)
 
 -- move i is one of the guide's window
 pub record InWindow (g : Guide) (i : ℕ) : Type 0 where
@@ -32,15 +27,3 @@ StaysInBand states g place = (i : ℕ) (s : State) → g.first ≤ i → i ≤ g
 -- the flat point lies in the shrunk panel
 abbrev pub IsOnPanel : Tree → ℕ → Point → Type 0
 IsOnPanel t panel p = InShrunk (shape_at t panel).margin (shape_at t panel).places p.x p.y (pos 1)
-
--- the guide fits a carton and the states of its plan: its edge is a free joint, its moves are moves of the
--- plan, at the states of
--- these its band stays within two right angles either way, and its probes lie in the shrunk flap
-pub record IsFitting (t : Tree) (states : List State) (g : Guide) : Type 0 where
-  pub flap : ℕ
-  pub place : ℕ
-  pub is_flap : IsFlap t g.edge.0 flap place
-  pub ordered : g.first ≤ g.last
-  pub moves : g.last + 1 < length states
-  pub band : StaysInBand states g place
-  pub probes : All (IsOnPanel t flap) g.probes

@@ -2,8 +2,4 @@ pub mod Bands
 pub mod Guides
 pub mod Holding
 pub mod Notes
-pub mod Faces
-pub mod Shifts
-pub mod Spots
-pub mod Depths
 pub mod Looks

@@ -1,7 +1,7 @@
 ghost use Rattle.std.specs.Prelude.{◌≡◌, ℕ, ◌<◌, unsigned_abs};
 ghost use Rattle.carton_base.specs.Grid.{IsGrid};
 ghost use Rattle.carton_base.specs.declared.limits.TheConstants.{MOST_JOINTS, WIDEST_STEP};
-ghost use Rattle.carton_check.specs.Sound.{IsStrideFrom};
+ghost use Rattle.carton_text.specs.PlanMoves.{IsStrideFrom};
 ghost use Rattle.carton_model.specs.Moves.{IsState, IsStop, IsMotion, stop_of, fold_at};
 ghost use Rattle.carton_guide.specs.Bands.{band_stops, shifted, banded_stop, banded_folds};
 ghost use Rattle.carton_guide.specs.Guides.{HasBandAt};

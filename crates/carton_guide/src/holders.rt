@@ -2,14 +2,12 @@ ghost use Rattle.std.specs.Prelude.{◌≡◌, ◌<◌, ◌≤◌, length, All, 
 ghost use Rattle.carton_base.specs.declared.limits.TheConstants.{MOST_HALVINGS, MOST_STATES};
 ghost use Rattle.carton_bodies.specs.Bodies.{IsInBody, IsDeeper};
 ghost use Rattle.carton_bodies.specs.Boxes.{IsBox, IsStroke, faces};
-ghost use Rattle.carton_guide.specs.Depths.{ForEach};
+ghost use Rattle.carton_bodies.specs.Depths.{ForEach};
 ghost use Rattle.carton_guide.specs.Holding.{IsInSome, IsDeepInNone};
-ghost use Rattle.carton_guide.specs.Spots.{IsSmall, IsNarrow};
+ghost use Rattle.carton_bodies.specs.Spots.{IsSmall, IsNarrow};
 
-use crate::depth::depth_in;
-use crate::face::faces_of;
-use crate::spot::Spot;
 use carton_base::{Cuboid, Piece, UNIT};
+use carton_bodies::{Spot, depth_in, faces_of};
 use carton_part::Sight;
 
 /// Bodies that move with a stroke, of which those are chosen whose entry of `chosen` is true. Whoever

@@ -2,15 +2,15 @@ ghost use Rattle.std.specs.Prelude.{◌≡◌, ℕ, ◌+◌, ◌<◌, ◌≤◌,
 ghost use Rattle.carton_base.specs.declared.limits.TheConstants.{MOST_JOINTS};
 ghost use Rattle.carton_base.specs.declared.motion.State.{State};
 ghost use Rattle.carton_bodies.specs.Boxes.{IsBox, IsStroke};
-ghost use Rattle.carton_bodies.specs.Plans.{IsPlanOf};
-ghost use Rattle.carton_check.specs.Sound.{IsMove};
-ghost use Rattle.carton_check.specs.Steps.{AreMoves};
+ghost use Rattle.carton_text.specs.PlanMoves.{IsMove, AreMoves};
+ghost use Rattle.carton_text.specs.TaskPlans.{IsPlanOf};
+ghost use Rattle.carton_catalogue.specs.Fits.{IsGuided, FitsGuide};
 ghost use Rattle.carton_tree.specs.Cartons.{IsCarton};
 ghost use Rattle.carton_model.specs.Moves.{IsMotion, fold_at};
 ghost use Rattle.carton_panels.specs.Shapes.{IsShape};
 ghost use Rattle.carton_reach.specs.Spots.{shape_at};
 ghost use Rattle.carton_guide.specs.Bands.{banded_folds};
-ghost use Rattle.carton_guide.specs.Guides.{IsFlap, IsFitting, InWindow, StaysInBand};
+ghost use Rattle.carton_guide.specs.Guides.{InWindow, StaysInBand};
 ghost use Rattle.carton_guide.specs.Notes.{IsGuideNote, IsHeldThrough, IsLooseDuring, IsWellHeld};
 
 use crate::bands::banded_move;
@@ -38,8 +38,8 @@ struct Flap {
 // The flap that hangs by the edge, which is a free joint.
 fn flap_of(carton: &Carton, edge: EdgeId) -> Flap
     requires carton { IsCarton carton.now }
-    requires free { (flap place : ℕ) × IsFlap carton.now edge.0 flap place }
-    ensures { IsFlap carton.now edge.0 result.panel.0 result.place }
+    requires free { (flap place : ℕ) × IsGuided carton.now edge.0 flap place }
+    ensures { IsGuided carton.now edge.0 result.panel.0 result.place }
 {
     let Some(panel) = carton.child(edge) else {
         unreachable!()
@@ -89,8 +89,8 @@ fn loose_during(
 ) -> Option<Moment>
     requires carton { IsCarton carton.now }
     requires states { AreMoves states.now }
-    requires guide { IsFitting carton.now states.now guide.now }
-    requires flap { IsFlap carton.now guide.now.edge.0 flap.panel.0 flap.place }
+    requires guide { FitsGuide carton.now states.now guide.now }
+    requires flap { IsGuided carton.now guide.now.edge.0 flap.panel.0 flap.place }
     requires window { InWindow guide.now step }
     ensures held { result ≡ None → (s r : State) → IsMove states.now step s r
         → IsHeldThrough carton.now guide.now holders.now.stroke holders.now.bodies.now holders.now.chosen.now
@@ -121,8 +121,8 @@ fn loose_end(
 ) -> Option<(End, Moment)>
     requires carton { IsCarton carton.now }
     requires states { AreMoves states.now }
-    requires guide { IsFitting carton.now states.now guide.now }
-    requires flap { IsFlap carton.now guide.now.edge.0 flap.panel.0 flap.place }
+    requires guide { FitsGuide carton.now states.now guide.now }
+    requires flap { IsGuided carton.now guide.now.edge.0 flap.panel.0 flap.place }
     requires window { InWindow guide.now step }
     ensures held { result ≡ None → (s r : State) (end : End) → IsMove states.now step s r
         → IsHeldThrough carton.now guide.now holders.now.stroke holders.now.bodies.now holders.now.chosen.now
@@ -153,7 +153,7 @@ pub fn held(
     slack: u16,
 ) -> GuideNote
     requires plan { IsPlanOf carton.now plan.now }
-    requires guide { IsFitting carton.now plan.now.states guide.now }
+    requires guide { FitsGuide carton.now plan.now.states guide.now }
     requires stroke { IsStroke stroke }
     requires bodies { All IsBox bodies.now }
     requires one_each { length chosen.now ≡ length bodies.now }

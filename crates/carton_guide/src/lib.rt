@@ -2,13 +2,9 @@
 #![tactic(auto)]
 
 mod bands;
-mod depth;
-mod face;
 mod holders;
 mod holding;
 mod note;
-mod shift;
-mod spot;
 mod watching;
 
 pub use holding::held;

@@ -9,8 +9,8 @@ ghost use Rattle.carton_part.specs.Parted.{AtEachMoment};
 ghost use Rattle.carton_guide.specs.Looks.{IsSomeIn, AreNoneDeep};
 
 use crate::holders::{Holders, look_at};
-use crate::spot::spot_over;
 use carton_base::{Moment, Motion, Piece, Point, Turn};
+use carton_bodies::flat_point_at;
 use carton_fix::Fix;
 use carton_part::{Look, Sight, walk};
 
@@ -48,7 +48,7 @@ impl Look for Watch<'_> {
         let course = self.course;
         let mut seen = Sight::Bad;
         for k in 0..course.probes.len() {
-            let spot = spot_over::<Fix>(course.turns, &course.motion, &course.probes[k], piece);
+            let spot = flat_point_at::<Fix>(course.turns, &course.motion, &course.probes[k], piece);
             match look_at(self.holders, course.step, piece, &spot) {
                 Sight::Good => return Sight::Good,
                 Sight::Bad => {}

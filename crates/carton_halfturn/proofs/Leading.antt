@@ -1,17 +1,19 @@
--- The rates of cosine and sine along a moving fold.
-use Rattle.std.proofs.Common.{◌≡◌, ℕ, zero, suc, ◌*◌, ◌≤◌, ◌<◌, ◌^◌, refl, ℤ, pos, neg_ℤ, ◌+ℤ◌, ◌-ℤ◌, ◌*ℤ◌}
-use Rattle.std.proofs.Common.{◌≤ℤ◌, ◌<ℤ◌, arith, ap, ◌∙◌}
+-- The rates of a value along a span.
+use Rattle.std.proofs.Common.{◌≡◌, ℕ, zero, suc, ◌*◌, ◌<◌, ◌^◌, refl, ℤ, pos, neg_ℤ, ◌+ℤ◌, ◌-ℤ◌, ◌*ℤ◌}
+use Rattle.std.proofs.Common.{◌≤ℤ◌, ◌<ℤ◌, unsigned_abs, arith, ap, ◌∙◌, inl, inr}
 use Rattle.std.proofs.lemmas.Int.{ints}
 use Rattle.carton_base.specs.Rounding.{unit}
 use Rattle.carton_base.specs.Moments.{IsMoment}
 use Rattle.carton_base.proofs.Products.{mul_neg_right}
-use Rattle.carton_model.specs.HalfTurns.{cosine, sine, square_sum, moving, Leads}
+use Rattle.carton_model.specs.HalfTurns.{moving, Leads}
+use Rattle.carton_halfturn.specs.declared.spans.FoldSpan.{FoldSpan}
+use Rattle.carton_halfturn.specs.Spans.{Within, IsOneWay}
 use Rattle.carton_base.proofs.Polynomials.{laid_out, sums}
-use Rattle.carton_halfturn.proofs.HalfPairs.{ByMirror, middle_at, over_at, under_at}
-use Rattle.carton_halfturn.proofs.Chords.{Bend, bend_negated, Steps, sine_bends, cosine_bends}
-use Rattle.carton_halfturn.proofs.Peaks.{scaled_le, moving_above, moving_below}
-use Rattle.carton_halfturn.proofs.Rates.{Gains}
+use Rattle.carton_halfturn.proofs.HalfPairs.{Halves, half_middle, half_over, half_under, square_sum_is}
+use Rattle.carton_halfturn.proofs.Forms.{Form, pair_value, pair_squares, squares, turned_one}
+use Rattle.carton_halfturn.proofs.Chords.{Bend, Steps, bend_of}
 use Rattle.carton_halfturn.proofs.Enclosing.{positive_den}
+use Rattle.carton_halfturn.proofs.Peaks.{scaled_le, moving_above, moving_below}
 
 -- ---- the gain in fractions
 reached : (a w n d x v x0 v0 : ℤ) → a *ℤ v0 ≡ x0 *ℤ w → x *ℤ (w *ℤ (d *ℤ (n *ℤ (v0 *ℤ v))))
@@ -24,6 +26,11 @@ standing : (a w d x v : ℤ) → x *ℤ w ≡ a *ℤ v → x *ℤ (w *ℤ d) ≡
 standing a w d x v e =
     let m = simp laid_out at (ap (λ z. z *ℤ d) e) in
     simp laid_out (omega (arith, sums, m))
+
+-- the gain over n / k lies from lo to hi
+pub record Gains (lo hi k n u x v x0 v0 : ℤ) : Type 0 where
+  pub low : (lo *ℤ (n *ℤ (v0 *ℤ v))) ≤ℤ (((x *ℤ v0 -ℤ x0 *ℤ v) *ℤ k) *ℤ u)
+  pub high : (((x *ℤ v0 -ℤ x0 *ℤ v) *ℤ k) *ℤ u) ≤ℤ (hi *ℤ (n *ℤ (v0 *ℤ v)))
 
 pub leads_from : (lo hi a : ℤ) (w n d : ℕ) (x : ℤ) (v : ℕ) (x0 : ℤ) (v0 : ℕ) → 0 < v → 0 < v0 → lo ≤ℤ hi
     → a *ℤ pos v0 ≡ x0 *ℤ pos w → (n ≡ 0 → x *ℤ pos w ≡ a *ℤ pos v)
@@ -46,124 +53,99 @@ leads_from lo hi a w (suc n) d x v x0 v0 vp v0p le same still g = record {
 }
 
 -- ---- smooth spans
--- a value f of the fold from a / e to b / e leaves its chord by little
-abbrev pub Bends : (ℤ → ℕ → ℤ) → ℤ → ℤ → ℕ → ℕ → ℕ → ℤ → Type 0
-Bends f a b e n d g =
-    Bend (pos d) (pos n) (pos e) g (f (moving a b n d) (e * d)) (pos (square_sum (moving a b n d) (e * d)))
-    (f (a *ℤ pos d) (e * d)) (pos (square_sum (a *ℤ pos d) (e * d))) (f (b *ℤ pos d) (e * d))
-    (pos (square_sum (b *ℤ pos d) (e * d)))
+-- a value, or the sum of the squares, at a moment of the span and at its ends, all over the same parts
+abbrev pub here : (ℤ → ℕ → ℤ) → FoldSpan → ℕ → ℕ → ℤ
+here f s n d = f (moving s.from s.to n d) (unsigned_abs s.den * d)
 
-pub record Bent (a b : ℤ) (e n d : ℕ) : Type 0 where
-  pub g : ℤ
-  pub square : g *ℤ g ≡ (b -ℤ a) *ℤ (b -ℤ a)
-  pub cosines : Bends cosine a b e n d g
-  pub sines : Bends sine a b e n d g
+abbrev pub start : (ℤ → ℕ → ℤ) → FoldSpan → ℕ → ℤ
+start f s d = f (s.from *ℤ pos d) (unsigned_abs s.den * d)
 
-bent_by : (sign : ℤ → ℤ)
-    → ((k n e g x v x0 v0 x1 v1 : ℤ) → Bend k n e g x v x0 v0 x1 v1
-    → Bend k n e g (sign x) v (sign x0) v0 (sign x1) v1)
-    → (a b : ℤ) (e n d : ℕ) (g q p r : ℤ) → g *ℤ g ≡ (b -ℤ a) *ℤ (b -ℤ a) → n ≤ d
-    → Steps (pos d) (pos n) g q p r → ByMirror sign (a *ℤ pos d) (e * d) q
-    → ByMirror sign (moving a b n d) (e * d) p
-    → ByMirror sign (b *ℤ pos d) (e * d) r → Bent a b e n d
-bent_by sign carried a b e n d g q p r square nd s x y z =
-    let e0 : pos 0 ≤ℤ pos e = omega (arith, ints) in
-    let n0 : pos 0 ≤ℤ pos n = omega (arith, ints) in
-    let nd' : pos n ≤ℤ pos d = omega (arith, ints) in
-    record {
-      g = g;
-      square = square;
-      cosines = rw (x.cosine_by, x.squares_by, y.cosine_by, y.squares_by, z.cosine_by, z.squares_by)
-          (carried (pos d) (pos n) (pos e) g _ _ _ _ _ _
-          (cosine_bends (pos e) (pos d) (pos n) g q p r s e0 n0 nd'));
-      sines = rw (x.sine_by, x.squares_by, y.sine_by, y.squares_by, z.sine_by, z.squares_by)
-          (sine_bends (pos e) (pos d) (pos n) g q p r s e0 n0 nd');
-    }
+abbrev pub end : (ℤ → ℕ → ℤ) → FoldSpan → ℕ → ℤ
+end f s d = f (s.to *ℤ pos d) (unsigned_abs s.den * d)
 
--- both ends from low to high, and so every fold between
-pub record Held (low high a b : ℤ) : Type 0 where
-  pub a_low : low ≤ℤ a
-  pub a_high : a ≤ℤ high
-  pub b_low : low ≤ℤ b
-  pub b_high : b ≤ℤ high
+abbrev pub Bends : (ℤ → ℕ → ℤ) → FoldSpan → ℕ → ℕ → Type 0
+Bends f s n d =
+    Bend (pos d) (pos n) (pos (unsigned_abs s.den)) (s.to -ℤ s.from) (here f s n d) (here squares s n d)
+    (start f s d) (start squares s d) (end f s d) (end squares s d)
 
-steps_up : (a b n k : ℤ) → Steps k n (b -ℤ a) (a *ℤ k) (a *ℤ k +ℤ (b -ℤ a) *ℤ n) (b *ℤ k)
-steps_up a b n k =
+-- a value in a stretch where the half pair is that of p, or turned by a right angle
+record Shifted (f : ℤ → ℕ → ℤ) (a b n : ℤ) (d : ℕ) (p : ℤ) : Type 0 where
+  value : f n d ≡ pair_value a b (pos d) p
+  squares_is : squares n d ≡ pair_squares (pos d) p
+
+shifted : (f : ℤ → ℕ → ℤ) (F : Form f) (n : ℤ) (d : ℕ) (c s a b p : ℤ) → Halves n d c s
+    → pair_value F.a F.b c s ≡ pair_value a b (pos d) p → pair_squares c s ≡ pair_squares (pos d) p
+    → Shifted f a b n d p
+shifted f F n d c s a b p k e q = record {
+  value = F.is n d ∙ (λ i. pair_value F.a F.b (k.first i) (k.second i)) ∙ e;
+  squares_is = square_sum_is n d ∙ (λ i. pair_squares (k.first i) (k.second i)) ∙ q;
+}
+
+unmoved : (n : ℤ) → n ≡ n +ℤ pos 0
+unmoved n = omega (arith, ints)
+
+back : (a b n d : ℤ) → pair_value a b (d +ℤ d -ℤ n) d ≡ pair_value (neg_ℤ a) (neg_ℤ b) d (n +ℤ neg_ℤ (d +ℤ d))
+back a b n d = simp laid_out (omega (arith, sums))
+
+back_squares : (n d : ℤ) → pair_squares (d +ℤ d -ℤ n) d ≡ pair_squares d (n +ℤ neg_ℤ (d +ℤ d))
+back_squares n d = simp laid_out (omega (arith, sums))
+
+forth : (a b n d : ℤ)
+    → pair_value a b (d +ℤ d +ℤ n) (neg_ℤ d) ≡ pair_value (neg_ℤ a) (neg_ℤ b) d (n +ℤ (d +ℤ d))
+forth a b n d = simp laid_out (omega (arith, sums))
+
+forth_squares : (n d : ℤ) → pair_squares (d +ℤ d +ℤ n) (neg_ℤ d) ≡ pair_squares d (n +ℤ (d +ℤ d))
+forth_squares n d = simp laid_out (omega (arith, sums))
+
+steps : (a b n k o : ℤ) → Steps k n (b -ℤ a) (a *ℤ k +ℤ o) (a *ℤ k +ℤ (b -ℤ a) *ℤ n +ℤ o) (b *ℤ k +ℤ o)
+steps a b n k o =
     record { so_far = simp laid_out (omega (arith, sums)); whole = simp laid_out (omega (arith, sums)) }
 
-steps_down : (a b n k t : ℤ) → Steps k n (a -ℤ b) (t -ℤ a *ℤ k) (t -ℤ (a *ℤ k +ℤ (b -ℤ a) *ℤ n)) (t -ℤ b *ℤ k)
-steps_down a b n k t =
-    record { so_far = simp laid_out (omega (arith, sums)); whole = simp laid_out (omega (arith, sums)) }
-
-other_square : (a b : ℤ) → (a -ℤ b) *ℤ (a -ℤ b) ≡ (b -ℤ a) *ℤ (b -ℤ a)
-other_square a b = simp laid_out (omega (arith, sums))
-
-negated_times : (e d : ℤ) → neg_ℤ e *ℤ d ≡ neg_ℤ (e *ℤ d)
-negated_times e d = mul_neg_right e d
-
-doubled_times : (e d : ℤ) → (e +ℤ e) *ℤ d ≡ e *ℤ d +ℤ e *ℤ d
-doubled_times e d = simp laid_out
-
-negated_double : (e d : ℤ) → neg_ℤ (e +ℤ e) *ℤ d ≡ neg_ℤ (e *ℤ d +ℤ e *ℤ d)
-negated_double e d = simp laid_out (omega (arith, sums))
-
-record Three (low high a b : ℤ) (n d : ℕ) : Type 0 where
-  a_low : (low *ℤ pos d) ≤ℤ (a *ℤ pos d)
-  a_high : (a *ℤ pos d) ≤ℤ (high *ℤ pos d)
-  n_low : (low *ℤ pos d) ≤ℤ moving a b n d
-  n_high : moving a b n d ≤ℤ (high *ℤ pos d)
-  b_low : (low *ℤ pos d) ≤ℤ (b *ℤ pos d)
-  b_high : (b *ℤ pos d) ≤ℤ (high *ℤ pos d)
-
-three : (low high a b : ℤ) (n d : ℕ) → IsMoment n d → Held low high a b → Three low high a b n d
-three low high a b n d m h =
+in_stretch : (f : ℤ → ℕ → ℤ) (s : FoldSpan) (n d : ℕ) → IsMoment n d → (low high a b o : ℤ)
+    → a *ℤ a +ℤ b *ℤ b ≡ pos 1 → Within s low high
+    → ((t : ℤ) → (low *ℤ pos d) ≤ℤ t → t ≤ℤ (high *ℤ pos d)
+    → Shifted f a b t (unsigned_abs s.den * d) (t +ℤ o)) → Bends f s n d
+in_stretch f s n d m low high a b o one w at =
     let d0 : pos 0 <ℤ pos d = omega (arith, ints, m.some) in
-    record {
-      a_low = scaled_le low a (pos d) d0 h.a_low;
-      a_high = scaled_le a high (pos d) d0 h.a_high;
-      n_low = moving_above low a b (pos n) (pos d) (omega (arith, ints)) (omega (arith, ints, m.within))
-          h.a_low h.b_low;
-      n_high = moving_below high a b (pos n) (pos d) (omega (arith, ints)) (omega (arith, ints, m.within))
-          h.a_high h.b_high;
-      b_low = scaled_le low b (pos d) d0 h.b_low;
-      b_high = scaled_le b high (pos d) d0 h.b_high;
-    }
+    let nd : pos n ≤ℤ pos d = omega (arith, ints, m.within) in
+    let n0 : pos 0 ≤ℤ pos n = omega (arith, ints) in
+    let x = at (moving s.from s.to n d)
+    (moving_above low s.from s.to (pos n) (pos d) n0 nd w.from_low w.to_low)
+    (moving_below high s.from s.to (pos n) (pos d) n0 nd w.from_high w.to_high) in
+    let y = at (s.from *ℤ pos d) (scaled_le low s.from (pos d) d0 w.from_low)
+    (scaled_le s.from high (pos d) d0 w.from_high) in
+    let z = at (s.to *ℤ pos d) (scaled_le low s.to (pos d) d0 w.to_low)
+    (scaled_le s.to high (pos d) d0 w.to_high) in
+    rw (x.value, x.squares_is, y.value, y.squares_is, z.value, z.squares_is)
+    (bend_of a b (pos (unsigned_abs s.den)) (pos d) (pos n) (s.to -ℤ s.from) (s.from *ℤ pos d +ℤ o)
+    (moving s.from s.to n d +ℤ o) (s.to *ℤ pos d +ℤ o) one (steps s.from s.to (pos n) (pos d) o)
+    (omega (arith, ints)) n0 nd)
 
-pub bent_middle : (a b : ℤ) (e n d : ℕ) → IsMoment n d → Held (neg_ℤ (pos e)) (pos e) a b → Bent a b e n d
-bent_middle a b e n d m h =
-    let t = three (neg_ℤ (pos e)) (pos e) a b n d m h in
-    let s = negated_times (pos e) (pos d) in
-    bent_by (λ z. z) (λ k n e g x v x0 v0 x1 v1 h. h) a b e n d
-    (b -ℤ a) (a *ℤ pos d) (moving a b n d) (b *ℤ pos d) refl m.within (steps_up a b (pos n) (pos d))
-    (middle_at (a *ℤ pos d) (e * d) (omega (arith, ints, t.a_low, s)) t.a_high)
-    (middle_at (moving a b n d) (e * d) (omega (arith, ints, t.n_low, s)) t.n_high)
-    (middle_at (b *ℤ pos d) (e * d) (omega (arith, ints, t.b_low, s)) t.b_high)
+scaled_den : (s : FoldSpan) (d : ℕ) → s.den *ℤ pos d ≡ pos (unsigned_abs s.den * d)
+scaled_den s d = let e : s.den ≡ pos (unsigned_abs s.den) = omega (arith, ints, s.positive) in
+    ap (λ z. z *ℤ pos d) e
 
-pub bent_over : (a b : ℤ) (e n d : ℕ) → IsMoment n d → Held (pos e) (pos e +ℤ pos e) a b → Bent a b e n d
-bent_over a b e n d m h =
-    let t = three (pos e) (pos e +ℤ pos e) a b n d m h in
-    let s = doubled_times (pos e) (pos d) in
-    let two : ℤ = pos (e * d) +ℤ pos (e * d) in
-    bent_by neg_ℤ bend_negated a b e n d
-    (a -ℤ b) (two -ℤ a *ℤ pos d) (two -ℤ moving a b n d) (two -ℤ b *ℤ pos d) (other_square a b) m.within
-    (steps_down a b (pos n) (pos d) two)
-    (over_at (a *ℤ pos d) (e * d) _ refl t.a_low (omega (arith, ints, t.a_high, s)))
-    (over_at (moving a b n d) (e * d) _ refl t.n_low (omega (arith, ints, t.n_high, s)))
-    (over_at (b *ℤ pos d) (e * d) _ refl t.b_low (omega (arith, ints, t.b_high, s)))
-
-pub bent_under : (a b : ℤ) (e n d : ℕ) → IsMoment n d → Held (neg_ℤ (pos e +ℤ pos e)) (neg_ℤ (pos e)) a b
-    → Bent a b e n d
-bent_under a b e n d m h =
-    let t = three (neg_ℤ (pos e +ℤ pos e)) (neg_ℤ (pos e)) a b n d m h in
-    let s = negated_times (pos e) (pos d) in
-    let u = negated_double (pos e) (pos d) in
-    let two : ℤ = neg_ℤ (pos (e * d) +ℤ pos (e * d)) in
-    bent_by neg_ℤ bend_negated a b e n d
-    (a -ℤ b) (two -ℤ a *ℤ pos d) (two -ℤ moving a b n d) (two -ℤ b *ℤ pos d) (other_square a b) m.within
-    (steps_down a b (pos n) (pos d) two)
-    (under_at (a *ℤ pos d) (e * d) _ refl (omega (arith, ints, t.a_high, s))
-    (omega (arith, ints, t.a_low, u)))
-    (under_at (moving a b n d) (e * d) _ refl (omega (arith, ints, t.n_high, s))
-    (omega (arith, ints, t.n_low, u)))
-    (under_at (b *ℤ pos d) (e * d) _ refl (omega (arith, ints, t.b_high, s))
-    (omega (arith, ints, t.b_low, u)))
+pub bends : (f : ℤ → ℕ → ℤ) → Form f → (s : FoldSpan) (n d : ℕ) → IsMoment n d → IsOneWay s → Bends f s n d
+bends f F s n d m (inl w) =
+    let e = scaled_den s d in
+    in_stretch f s n d m (neg_ℤ s.den) s.den F.a F.b (pos 0) F.one w
+    (λ t low high. let k = half_middle t (unsigned_abs s.den * d)
+    (omega (arith, ints, low, high, e, mul_neg_right s.den (pos d))) in
+    shifted f F t (unsigned_abs s.den * d) _ _ F.a F.b (t +ℤ pos 0) k
+    (ap (λ z. pair_value F.a F.b (pos (unsigned_abs s.den * d)) z) (unmoved t))
+    (ap (λ z. pair_squares (pos (unsigned_abs s.den * d)) z) (unmoved t)))
+bends f F s n d m (inr (inl w)) =
+    let e = scaled_den s d in
+    let c : ℕ = unsigned_abs s.den * d in
+    in_stretch f s n d m s.den (s.den +ℤ s.den) (neg_ℤ F.a) (neg_ℤ F.b) (neg_ℤ (pos c +ℤ pos c))
+    (turned_one F.a F.b F.one) w
+    (λ t low high. shifted f F t c _ _ (neg_ℤ F.a) (neg_ℤ F.b) (t +ℤ neg_ℤ (pos c +ℤ pos c))
+    (half_over t c (omega (arith, ints, low, e))) (back F.a F.b t (pos c)) (back_squares t (pos c)))
+bends f F s n d m (inr (inr w)) =
+    let e = scaled_den s d in
+    let c : ℕ = unsigned_abs s.den * d in
+    in_stretch f s n d m (neg_ℤ (s.den +ℤ s.den)) (neg_ℤ s.den) (neg_ℤ F.a) (neg_ℤ F.b) (pos c +ℤ pos c)
+    (turned_one F.a F.b F.one) w
+    (λ t low high. shifted f F t c _ _ (neg_ℤ F.a) (neg_ℤ F.b) (t +ℤ (pos c +ℤ pos c))
+    (half_under t c (omega (arith, ints, high, e, mul_neg_right s.den (pos d)))) (forth F.a F.b t (pos c))
+    (forth_squares t (pos c)))

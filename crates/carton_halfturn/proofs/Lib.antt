@@ -1,7 +1,6 @@
-pub mod Turning
-pub mod Mirrored
 pub mod Chords
 pub mod HalfPairs
+pub mod Forms
 pub mod Roundings
 pub mod Rates
 pub mod Peaks

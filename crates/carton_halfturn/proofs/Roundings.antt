@@ -42,14 +42,6 @@ over_holds x v y w u hi v0 w0 u0 le h =
     let b = simp laid_out at (nonneg_product (hi *ℤ v -ℤ x *ℤ u) w (omega (arith, sums, h)) w0) in
     cancel (y *ℤ u) (hi *ℤ w) v v0 (simp laid_out (omega (arith, sums, a, b)))
 
--- y / w is at least x / v, which is at least lo
-pub under_holds : (x v y w u lo : ℤ) → pos 0 <ℤ v → pos 0 ≤ℤ w → pos 0 ≤ℤ u → (x *ℤ w) ≤ℤ (y *ℤ v)
-    → (lo *ℤ v) ≤ℤ (x *ℤ u) → (lo *ℤ w) ≤ℤ (y *ℤ u)
-under_holds x v y w u lo v0 w0 u0 le h =
-    let a = simp laid_out at (nonneg_product (y *ℤ v -ℤ x *ℤ w) u (omega (arith, sums, le)) u0) in
-    let b = simp laid_out at (nonneg_product (x *ℤ u -ℤ lo *ℤ v) w (omega (arith, sums, h)) w0) in
-    cancel (lo *ℤ w) (y *ℤ u) v v0 (simp laid_out (omega (arith, sums, a, b)))
-
 -- x / v and y / w differ by at most 2g / d, so x / v rounded up and y / w rounded down differ by at most two
 -- units more
 pub spread_holds : (x v y w u d g lo hi : ℤ) → pos 0 <ℤ v → pos 0 <ℤ w → pos 0 ≤ℤ u → pos 0 ≤ℤ d

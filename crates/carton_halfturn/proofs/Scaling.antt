@@ -3,12 +3,13 @@ use Rattle.std.proofs.Common.{◌≡◌, ℕ, ◌*◌, ◌≤◌, ◌<◌, ap, s
 use Rattle.std.proofs.Common.{◌<ℤ◌, unsigned_abs, arith}
 use Rattle.std.proofs.lemmas.Int.{ints, unsigned_abs-mul, by_lt_z}
 use Rattle.std.proofs.Math.Nat.{mul-le-mul_left}
-use Rattle.carton_base.specs.Rounding.{unit, IsBetween}
+use Rattle.carton_base.specs.Rounding.{unit}
 use Rattle.carton_model.specs.HalfTurns.{half_cosine, half_sine, cosine, sine, square_sum, moving}
-use Rattle.carton_base.proofs.Polynomials.{laid_out, sums, mul_add_left, nonneg_product}
+use Rattle.carton_base.proofs.Polynomials.{laid_out, sums, mul_add_left, nonneg_product, nonneg_square}
 use Rattle.carton_halfturn.proofs.Peaks.{scaled_lt}
-use Rattle.carton_halfturn.proofs.HalfPairs.{Halves, half_middle, half_over, half_under, cosine_is, sine_is}
+use Rattle.carton_halfturn.proofs.HalfPairs.{Halves, half_middle, half_over, half_under}
 use Rattle.carton_halfturn.proofs.HalfPairs.{square_sum_is}
+use Rattle.carton_halfturn.proofs.Forms.{Form, pair_value, cosine_form, sine_form}
 
 over_scaled : (d n k : ℤ) → d *ℤ k +ℤ d *ℤ k -ℤ n *ℤ k ≡ (d +ℤ d -ℤ n) *ℤ k
 over_scaled d n k = simp laid_out (omega (arith, sums))
@@ -46,25 +47,24 @@ scaled_halves n d k p = by_lt_z (pos d) n
     k0 : pos 0 <ℤ pos k
     k0 = omega (arith, ints, p)
 
-squared_difference : (c s k : ℤ) → (c *ℤ k) *ℤ (c *ℤ k) -ℤ (s *ℤ k) *ℤ (s *ℤ k)
-    ≡ (c *ℤ c -ℤ s *ℤ s) *ℤ (k *ℤ k)
-squared_difference c s k = simp laid_out (omega (arith, sums))
-
-squared_product : (c s k : ℤ) → pos 2 *ℤ ((c *ℤ k) *ℤ (s *ℤ k)) ≡ (pos 2 *ℤ (c *ℤ s)) *ℤ (k *ℤ k)
-squared_product c s k = simp laid_out (omega (arith, sums))
+scaled_value : (a b c s k : ℤ) → pair_value a b (c *ℤ k) (s *ℤ k) ≡ pair_value a b c s *ℤ (k *ℤ k)
+scaled_value a b c s k = simp laid_out (omega (arith, sums))
 
 squared_sum : (c s k : ℤ) → (c *ℤ k) *ℤ (c *ℤ k) +ℤ (s *ℤ k) *ℤ (s *ℤ k) ≡ (c *ℤ c +ℤ s *ℤ s) *ℤ (k *ℤ k)
 squared_sum c s k = simp laid_out (omega (arith, sums))
 
+pub form_scaled : (f : ℤ → ℕ → ℤ) → Form f → (n : ℤ) (d k : ℕ) → 0 < k
+    → f (n *ℤ pos k) (d * k) ≡ f n d *ℤ (pos k *ℤ pos k)
+form_scaled f F n d k p = let h = scaled_halves n d k p in
+    F.is (n *ℤ pos k) (d * k) ∙ (λ i. pair_value F.a F.b (h.first i) (h.second i))
+    ∙ scaled_value F.a F.b (half_cosine n d) (half_sine n d) (pos k)
+    ∙ ap (λ z. z *ℤ (pos k *ℤ pos k)) (sym (F.is n d))
+
 pub cosine_scaled : (n : ℤ) (d k : ℕ) → 0 < k → cosine (n *ℤ pos k) (d * k) ≡ cosine n d *ℤ (pos k *ℤ pos k)
-cosine_scaled n d k p = let h = scaled_halves n d k p in
-    rw (cosine_is (n *ℤ pos k) (d * k), cosine_is n d, h.first, h.second)
-    (squared_difference (half_cosine n d) (half_sine n d) (pos k))
+cosine_scaled = form_scaled cosine cosine_form
 
 pub sine_scaled : (n : ℤ) (d k : ℕ) → 0 < k → sine (n *ℤ pos k) (d * k) ≡ sine n d *ℤ (pos k *ℤ pos k)
-sine_scaled n d k p = let h = scaled_halves n d k p in
-    rw (sine_is (n *ℤ pos k) (d * k), sine_is n d, h.first, h.second)
-    (squared_product (half_cosine n d) (half_sine n d) (pos k))
+sine_scaled = form_scaled sine sine_form
 
 pub square_sum_scaled : (n : ℤ) (d k : ℕ) → 0 < k → pos (square_sum (n *ℤ pos k) (d * k))
     ≡ pos (square_sum n d) *ℤ (pos k *ℤ pos k)
@@ -84,12 +84,17 @@ wider_above a x v q u q0 h =
     let m = simp laid_out at (nonneg_product (a *ℤ v -ℤ x *ℤ u) q (omega (arith, sums, h)) q0) in
     simp laid_out (omega (arith, sums, m))
 
-pub encloses_scaled : (lo hi x : ℤ) (v : ℕ) (y : ℤ) (w : ℕ) (q : ℤ) → pos 0 ≤ℤ q → y ≡ x *ℤ q
-    → pos w ≡ pos v *ℤ q → IsBetween lo hi x v → IsBetween lo hi y w
-encloses_scaled lo hi x v y w q q0 e f h = record {
-  from = rw (e, f) (wider lo x (pos v) q unit q0 h.from);
-  upto = rw (e, f) (wider_above hi x (pos v) q unit q0 h.upto);
-}
+pub scaled_least : (f : ℤ → ℕ → ℤ) → Form f → (lo n : ℤ) (d k : ℕ) → 0 < k
+    → (lo *ℤ pos (square_sum n d)) ≤ℤ (f n d *ℤ unit)
+    → (lo *ℤ pos (square_sum (n *ℤ pos k) (d * k))) ≤ℤ (f (n *ℤ pos k) (d * k) *ℤ unit)
+scaled_least f F lo n d k p h = rw (form_scaled f F n d k p, square_sum_scaled n d k p)
+    (wider lo (f n d) (pos (square_sum n d)) (pos k *ℤ pos k) unit (nonneg_square (pos k)) h)
+
+pub scaled_most : (f : ℤ → ℕ → ℤ) → Form f → (hi n : ℤ) (d k : ℕ) → 0 < k
+    → (f n d *ℤ unit) ≤ℤ (hi *ℤ pos (square_sum n d))
+    → (f (n *ℤ pos k) (d * k) *ℤ unit) ≤ℤ (hi *ℤ pos (square_sum (n *ℤ pos k) (d * k)))
+scaled_most f F hi n d k p h = rw (form_scaled f F n d k p, square_sum_scaled n d k p)
+    (wider_above hi (f n d) (pos (square_sum n d)) (pos k *ℤ pos k) unit (nonneg_square (pos k)) h)
 
 -- a moving fold at the first and at the last moment
 pub at_start : (a b : ℤ) (n d : ℕ) → n ≡ 0 → moving a b n d ≡ a *ℤ pos d

@@ -1,5 +1,5 @@
 -- How large the numbers become.
-use Rattle.std.proofs.Common.{◌≡◌, ℕ, ◌*◌, ◌≤◌, ◌<◌, ◌^◌, ℤ, pos, neg_ℤ, ◌+ℤ◌, ◌-ℤ◌, ◌*ℤ◌, ◌≤ℤ◌, ◌<ℤ◌}
+use Rattle.std.proofs.Common.{◌≡◌, ℕ, ◌*◌, ◌≤◌, ◌^◌, ℤ, pos, neg_ℤ, ◌+ℤ◌, ◌-ℤ◌, ◌*ℤ◌, ◌≤ℤ◌, ◌<ℤ◌}
 use Rattle.std.proofs.Common.{unsigned_abs, arith, ap, ◌∙◌}
 use Rattle.std.proofs.lemmas.Int.{ints, by_lt_z}
 use Rattle.std.proofs.lemmas.Bool.Decides.{nat_tests}
@@ -13,18 +13,10 @@ use Rattle.carton_model.specs.HalfTurns.{half_cosine, half_sine, cosine, sine, s
 use Rattle.carton_halfturn.specs.declared.folds.Fold.{Fold}
 use Rattle.carton_halfturn.specs.declared.spans.FoldSpan.{FoldSpan}
 use Rattle.carton_halfturn.specs.Values.{IsValue, IsProper}
-use Rattle.carton_halfturn.proofs.HalfPairs.{by_mirror, cosine_is, sine_is, square_sum_is}
-use Rattle.carton_halfturn.proofs.Peaks.{mirror_of, moving_above, moving_below}
+use Rattle.carton_halfturn.proofs.HalfPairs.{cosine_is, sine_is, square_sum_is}
+use Rattle.carton_halfturn.proofs.Forms.{squares_positive}
+use Rattle.carton_halfturn.proofs.Peaks.{moving_above, moving_below}
 use Rattle.carton_halfturn.proofs.Roundings.{rounds}
-
--- the sum of the squares is positive
-pub squares_positive : (n : ℤ) (d : ℕ) → 0 < d → unsigned_abs n ≤ 2 * d → pos 0 <ℤ pos (square_sum n d)
-squares_positive n d d0 w =
-    let p = mirror_of n (pos d) (omega (arith, ints)) (omega (arith, ints, w)) (omega (arith, ints, w)) in
-    let b = (by_mirror n d p.0 p.1).1 in
-    let dd = positive_product (pos d) (pos d) (omega (arith, ints, d0)) (omega (arith, ints, d0)) in
-    let pp = nonneg_square p.0 in
-    rw b.squares_by (omega (arith, sums, dd, pp))
 
 proper : (c s : ℤ) → pos 0 <ℤ (c *ℤ c +ℤ s *ℤ s)
     → IsProper (c *ℤ c -ℤ s *ℤ s) (pos 2 *ℤ (c *ℤ s)) (c *ℤ c +ℤ s *ℤ s)

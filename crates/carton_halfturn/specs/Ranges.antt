@@ -1,34 +1,14 @@
--- Where cosine and sine are least and greatest over the folds from low to high, all over one d.
-use Rattle.std.specs.Prelude.{◌≡◌, ◌⊎◌, ℤ, pos, neg_ℤ, ◌+ℤ◌, ◌-ℤ◌, ◌*ℤ◌, ◌≤ℤ◌, ◌<ℤ◌}
+-- Where cosine and sine are greatest and least over the folds from low to high, all over one d.
+use Rattle.std.specs.Prelude.{◌≡◌, ◌⊎◌, ℤ, pos, neg_ℤ, ◌+ℤ◌, ◌≤ℤ◌}
 
--- p / d is the fold within a right angle that has the same sine as n / d
-pub record Middle (n d p : ℤ) : Type 0 where
-  pub from : neg_ℤ d ≤ℤ n
-  pub upto : n ≤ℤ d
-  pub is : p ≡ n
-
-pub record Over (n d p : ℤ) : Type 0 where
-  pub past : d <ℤ n
-  pub within : n ≤ℤ (d +ℤ d)
-  pub is : p ≡ d +ℤ d -ℤ n
-
-pub record Under (n d p : ℤ) : Type 0 where
-  pub past : n <ℤ neg_ℤ d
-  pub within : neg_ℤ (d +ℤ d) ≤ℤ n
-  pub is : p ≡ neg_ℤ (d +ℤ d) -ℤ n
-
-abbrev pub IsMirror : ℤ → ℤ → ℤ → Type 0
-IsMirror n d p = Middle n d p ⊎ Over n d p ⊎ Under n d p
-
--- m is the size of the fold from low to high that lies nearest to flat: they lie above it, below it, or
--- across it
+-- m is the fold from low to high that lies nearest to flat: they lie above it, below it, or across it
 pub record Above (low m : ℤ) : Type 0 where
   pub after : pos 0 ≤ℤ low
   pub is : m ≡ low
 
 pub record Below (high m : ℤ) : Type 0 where
   pub before : high ≤ℤ pos 0
-  pub is : m ≡ neg_ℤ high
+  pub is : m ≡ high
 
 pub record Across (low high m : ℤ) : Type 0 where
   pub before : low ≤ℤ pos 0
@@ -38,29 +18,38 @@ pub record Across (low high m : ℤ) : Type 0 where
 abbrev pub IsNearest : ℤ → ℤ → ℤ → Type 0
 IsNearest low high m = Above low m ⊎ Below high m ⊎ Across low high m
 
--- m is the size of the fold from low to high that lies farthest from flat
-pub record IsFarthest (low high m : ℤ) : Type 0 where
-  pub above : high ≤ℤ m
-  pub below : neg_ℤ low ≤ℤ m
-  pub one : (m ≡ high) ⊎ (m ≡ neg_ℤ low)
+-- m is the fold from low to high that lies farthest from flat
+pub record Upward (low high m : ℤ) : Type 0 where
+  pub more : neg_ℤ low ≤ℤ high
+  pub is : m ≡ high
 
--- p / d is the mirrored fold of one of the folds from low to high
-pub record IsTaken (low high d p : ℤ) : Type 0 where
-  pub fold : ℤ
-  pub from : low ≤ℤ fold
-  pub upto : fold ≤ℤ high
-  pub mirrored : IsMirror fold d p
+pub record Downward (low high m : ℤ) : Type 0 where
+  pub more : high ≤ℤ neg_ℤ low
+  pub is : m ≡ low
 
--- no fold from low to high, in whatever parts k of 1 / d it is counted, has a mirrored fold past p / d
-abbrev pub IsHighest : ℤ → ℤ → ℤ → ℤ → Type 0
-IsHighest low high d p = (k n q : ℤ) → pos 0 <ℤ k → (low *ℤ k) ≤ℤ n → n ≤ℤ (high *ℤ k) → IsMirror n (d *ℤ k) q
-    → q ≤ℤ (p *ℤ k)
+abbrev pub IsFarthest : ℤ → ℤ → ℤ → Type 0
+IsFarthest low high m = Upward low high m ⊎ Downward low high m
 
--- no such fold has a mirrored fold short of p / d
-abbrev pub IsLowest : ℤ → ℤ → ℤ → ℤ → Type 0
-IsLowest low high d p = (k n q : ℤ) → pos 0 <ℤ k → (low *ℤ k) ≤ℤ n → n ≤ℤ (high *ℤ k) → IsMirror n (d *ℤ k) q
-    → (p *ℤ k) ≤ℤ q
+-- p is the fold from low to high that has the greatest sine: they lie past a right angle, across it, or
+-- short of
+-- it, where the upper end or else the lower one lies nearer to it round the circle
+pub record Past (low d p : ℤ) : Type 0 where
+  pub past : d ≤ℤ low
+  pub is : p ≡ low
 
--- the folds from low to high all lie short of a right angle, or all past it
-abbrev pub IsOneSided : ℤ → ℤ → ℤ → Type 0
-IsOneSided low high d = (high <ℤ d) ⊎ (d <ℤ low)
+pub record Upright (low high d p : ℤ) : Type 0 where
+  pub before : low ≤ℤ d
+  pub after : d ≤ℤ high
+  pub is : p ≡ d
+
+pub record Rising (low high d p : ℤ) : Type 0 where
+  pub short : high ≤ℤ d
+  pub nearer : neg_ℤ (d +ℤ d) ≤ℤ (low +ℤ high)
+  pub is : p ≡ high
+
+pub record Falling (low high d p : ℤ) : Type 0 where
+  pub nearer : (low +ℤ high) ≤ℤ neg_ℤ (d +ℤ d)
+  pub is : p ≡ low
+
+abbrev pub IsCrest : ℤ → ℤ → ℤ → ℤ → Type 0
+IsCrest low high d p = Past low d p ⊎ Upright low high d p ⊎ Rising low high d p ⊎ Falling low high d p

@@ -1,6 +1,5 @@
-ghost use Rattle.std.specs.Prelude.{◌≡◌, ◌⊎◌, ◌*◌, ◌≤◌, ◌^◌, pos, neg_ℤ, ◌-ℤ◌, ◌≤ℤ◌, ◌<ℤ◌, unsigned_abs};
-ghost use Rattle.carton_halfturn.specs.Ranges.{IsMirror, IsNearest, IsFarthest, IsTaken, IsHighest};
-ghost use Rattle.carton_halfturn.specs.Ranges.{IsLowest, IsOneSided};
+ghost use Rattle.std.specs.Prelude.{◌≡◌, ◌*◌, ◌≤◌, ◌^◌, pos, neg_ℤ, ◌-ℤ◌, ◌≤ℤ◌, ◌<ℤ◌, unsigned_abs};
+ghost use Rattle.carton_halfturn.specs.Ranges.{IsNearest, IsFarthest, IsCrest};
 ghost use Rattle.carton_halfturn.specs.Spans.{IsRangeOf};
 
 use crate::folds::Fold;
@@ -61,7 +60,17 @@ fn opposite(f: Fold) -> Fold
     }
 }
 
-/// The size of the fold that lies nearest to flat.
+// One of the folds.
+fn fold_at(r: Range, num: i64) -> Fold
+    requires from { r.low ≤ℤ num }
+    requires upto { num ≤ℤ r.high }
+    ensures num { result.num ≡ num }
+    ensures den { result.den ≡ r.den }
+{
+    Fold { num, den: r.den }
+}
+
+/// The fold that lies nearest to flat.
 pub fn nearest(r: Range) -> Fold
     ensures den { result.den ≡ r.den }
     ensures nearest { IsNearest r.low r.high result.num }
@@ -69,95 +78,45 @@ pub fn nearest(r: Range) -> Fold
     let num = if r.low >= 0 {
         r.low
     } else if r.high <= 0 {
-        -r.high
+        r.high
     } else {
         0
     };
-    Fold { num, den: r.den }
+    fold_at(r, num)
 }
 
-/// The size of the fold that lies farthest from flat.
+/// The fold that lies farthest from flat.
 pub fn farthest(r: Range) -> Fold
     ensures den { result.den ≡ r.den }
     ensures farthest { IsFarthest r.low r.high result.num }
 {
-    let down = -r.low;
-    if r.high >= down {
-        return Fold {
-            num: r.high,
-            den: r.den,
-        };
+    if r.high >= -r.low {
+        return fold_at(r, r.high);
     }
-    Fold {
-        num: down,
-        den: r.den,
-    }
+    fold_at(r, r.low)
 }
 
-// The fold within a right angle that has the same sine.
-fn mirrored(num: i64, r: Range) -> Fold
-    requires from { r.low ≤ℤ num }
-    requires upto { num ≤ℤ r.high }
-    ensures den { result.den ≡ r.den }
-    ensures mirror { IsMirror num r.den result.num }
-{
-    if num > r.den {
-        return Fold {
-            num: 2 * r.den - num,
-            den: r.den,
-        };
-    }
-    if num < -r.den {
-        return Fold {
-            num: -2 * r.den - num,
-            den: r.den,
-        };
-    }
-    Fold { num, den: r.den }
-}
-
-// The greater of two folds.
-fn higher(a: Fold, b: Fold) -> Fold
-    requires { a.den ≡ b.den }
-    ensures den { result.den ≡ a.den }
-    ensures picked { (result.num ≡ a.num) ⊎ (result.num ≡ b.num) }
-    ensures above { (a.num ≤ℤ result.num) × (b.num ≤ℤ result.num) }
-{
-    if a.num >= b.num { a } else { b }
-}
-
-// The mirrored fold of the end whose sine is the greater.
-fn higher_end(r: Range) -> Fold
-    ensures den { result.den ≡ r.den }
-    ensures taken { IsTaken r.low r.high r.den result.num }
-    ensures highest { IsOneSided r.low r.high r.den → IsHighest r.low r.high r.den result.num }
-{
-    higher(mirrored(r.low, r), mirrored(r.high, r))
-}
-
-/// The fold within a right angle that has the greatest sine of the range.
+/// The fold that has the greatest sine.
 pub fn crest(r: Range) -> Fold
     ensures den { result.den ≡ r.den }
-    ensures taken { IsTaken r.low r.high r.den result.num }
-    ensures highest { IsHighest r.low r.high r.den result.num }
+    ensures crest { IsCrest r.low r.high r.den result.num }
 {
-    if r.high < r.den {
-        return higher_end(r);
+    if r.low >= r.den {
+        return fold_at(r, r.low);
     }
-    if r.den < r.low {
-        return higher_end(r);
+    if r.high >= r.den {
+        return fold_at(r, r.den);
     }
-    Fold {
-        num: r.den,
-        den: r.den,
+    if r.low + r.high >= -2 * r.den {
+        return fold_at(r, r.high);
     }
+    fold_at(r, r.low)
 }
 
-/// The fold within a right angle that has the least sine of the range.
+/// The fold that has the least sine.
 pub fn trough(r: Range) -> Fold
     ensures den { result.den ≡ r.den }
-    ensures taken { IsTaken r.low r.high r.den result.num }
-    ensures lowest { IsLowest r.low r.high r.den result.num }
+    ensures trough { IsCrest (neg_ℤ r.high) (neg_ℤ r.low) r.den (neg_ℤ result.num) }
 {
     opposite(crest(turned(r)))
 }

@@ -6,3 +6,4 @@ pub mod Numerals
 pub mod SpelledLines
 pub mod Readings
 pub mod Spellings
+pub mod FreeSpellings

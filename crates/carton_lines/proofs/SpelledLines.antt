@@ -25,7 +25,7 @@ use Rattle.carton_lines.specs.StrictLines.{whole, numbers_after, spaced}
 use Rattle.carton_lines.proofs.Lower.{AreDigits, own}
 use Rattle.carton_lines.proofs.Numerals.{IsSmall, spelled_number, number_spelled}
 
-take_left : (xs ys : List ℕ) → take (length xs) (xs ++ ys) ≡ xs
+pub take_left : (xs ys : List ℕ) → take (length xs) (xs ++ ys) ≡ xs
 take_left [] ys = refl
 take_left (x ∷ xs) ys = ap (λ (zs : List ℕ). x ∷ zs) (take_left xs ys)
 
@@ -55,7 +55,7 @@ Lacks c bs = All (λ b. eqb b c ≡ false) bs
 pub lacks : (c : ℕ) (bs : List ℕ) → list_all (λ b. not (eqb b c)) bs ≡ true → Lacks c bs
 lacks c bs h = λ k d lt. not-true _ (AllPass-from_list_all (λ b. not (eqb b c)) bs h k d lt)
 
-index_left : (xs ys : List ℕ) (y : ℕ) → slice_index (xs ++ y ∷ ys) (length xs) ≡ y
+pub index_left : (xs ys : List ℕ) (y : ℕ) → slice_index (xs ++ y ∷ ys) (length xs) ≡ y
 index_left [] ys y = refl
 index_left (x ∷ xs) ys y = index_left xs ys y
 
@@ -91,7 +91,7 @@ digits_lack c low (d ∷ ds) h =
     let from = leb-true 48 d (and_parts _ _ p.0).0 in
     (ne_eqb d c (λ e. omega (arith, from, e, low)), digits_lack c low ds p.1)
 
-number_lacks : (c : ℕ) → c < 45 → (z : ℤ) → IsSmall z → Lacks c (signed_decimal z)
+pub number_lacks : (c : ℕ) → c < 45 → (z : ℤ) → IsSmall z → Lacks c (signed_decimal z)
 number_lacks c low (pos n) small =
     All-from_recursion (λ b. eqb b c ≡ false) (decimal n)
     (digits_lack c (omega arith) (decimal n) (digits_decimal own n (omega arith)))
@@ -103,19 +103,21 @@ number_lacks c low (negsuc n) small =
 abbrev pub AreSmall : List ℤ → Type 0
 AreSmall zs = AllByRecursion IsSmall zs
 
--- numbers after spaces have no line feed
-numbers_lack : (zs : List ℤ) → AreSmall zs → Lacks 10 (flat_map spaced zs)
-numbers_lack [] h = All-nil (λ b. eqb b 10 ≡ false)
-numbers_lack (z ∷ zs) h = All-append (λ b. eqb b 10 ≡ false) (spaced z) (flat_map spaced zs)
-    (All-cons (λ b. eqb b 10 ≡ false) 32 (signed_decimal z) refl (number_lacks 10 (omega arith) z h.0))
-    (numbers_lack zs h.1)
+-- numbers after spaces have no line feed, and nothing else below a space
+numbers_lack : (c : ℕ) → c < 32 → (zs : List ℤ) → AreSmall zs → Lacks c (flat_map spaced zs)
+numbers_lack c low [] h = All-nil (λ b. eqb b c ≡ false)
+numbers_lack c low (z ∷ zs) h = All-append (λ b. eqb b c ≡ false) (spaced z) (flat_map spaced zs)
+    (All-cons (λ b. eqb b c ≡ false) 32 (signed_decimal z) (ne_eqb 32 c (λ e. omega (arith, e, low)))
+    (number_lacks c (omega (arith, low)) z h.0))
+    (numbers_lack c low zs h.1)
 
-pub line_lacks : (word : List ℕ) (zs : List ℤ) → Lacks 10 word → AreSmall zs
-    → Lacks 10 (word ++ flat_map spaced zs)
-line_lacks word zs w h = All-append (λ b. eqb b 10 ≡ false) word (flat_map spaced zs) w (numbers_lack zs h)
+pub line_lacks : (c : ℕ) → c < 32 → (word : List ℕ) (zs : List ℤ) → Lacks c word → AreSmall zs
+    → Lacks c (word ++ flat_map spaced zs)
+line_lacks c low word zs w h =
+    All-append (λ b. eqb b c ≡ false) word (flat_map spaced zs) w (numbers_lack c low zs h)
 
 -- the words of a line of a word and numbers
-words_apart : (word : List ℕ) (zs : List ℤ) → Lacks 32 word → AreSmall zs
+pub words_apart : (word : List ℕ) (zs : List ℤ) → Lacks 32 word → AreSmall zs
     → words_of (word ++ flat_map spaced zs) ≡ word ∷ map signed_decimal zs
 words_apart word [] w h = ap words_of (append-nil word) ∙ slice_split_none (λ b. eqb b 32) word w
 words_apart word (z ∷ zs) w h =
@@ -147,7 +149,7 @@ spelled_numbers i (w ∷ ws) zs h small =
     ∷ spelled_numbers (i + 1) ws b.0 b.1 near.1 j) ∙ ap (λ (ys : List ℤ). map signed_decimal ys) more
 
 -- and small numbers in decimal write themselves
-numbers_spelled : (i : ℕ) (zs : List ℤ) → AreSmall zs
+pub numbers_spelled : (i : ℕ) (zs : List ℤ) → AreSmall zs
     → entries_from (λ i. number_in) i (map signed_decimal zs) ≡ Ok zs
 unfolding entries_from
 numbers_spelled i [] h = refl

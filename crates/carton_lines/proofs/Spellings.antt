@@ -35,7 +35,7 @@ lines_of_fed (line ∷ lines) h =
     ∙ ap (λ (ls : List (List ℕ)). fed line ∷ ls) (lines_of_fed lines h.1)
 
 -- the text of lines and one more
-text_more : (lines : List (List ℕ)) (line : List ℕ)
+pub text_more : (lines : List (List ℕ)) (line : List ℕ)
     → concat (map fed (lines ++ line ∷ [])) ≡ concat (map fed lines) ++ fed line
 text_more [] line = append-nil (fed line)
 text_more (l ∷ lines) line =

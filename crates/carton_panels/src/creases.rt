@@ -45,12 +45,7 @@ fn has_side(vertices: &[u16], edge: Ends) -> bool
 fn is_first(earlier: &[Ends], edge: Ends) -> bool
     ensures { IsTrue result ↔ ¬ (Any (λ e. HasEnds e edge.p edge.q) earlier.now) }
 {
-    for e in earlier {
-        if has_ends(*e, edge.p, edge.q) {
-            return false;
-        }
-    }
-    true
+    !earlier.iter().any(|e| has_ends(*e, edge.p, edge.q))
 }
 
 // Whether edge k is a side of the face with these vertices.

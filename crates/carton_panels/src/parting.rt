@@ -58,12 +58,7 @@ fn are_farther(h: Heading, p: Triple, second: &[Triple]) -> bool
     requires second { All IsSmall second.now }
     ensures { IsTrue result ↔ All (λ q. IsFarther (pos 0) h.u h.v (pos 0) (laid p) (laid q)) second.now }
 {
-    for q in second {
-        if !is_farther(h, p, *q) {
-            return false;
-        }
-    }
-    true
+    second.iter().all(|q| is_farther(h, p, *q))
 }
 
 // Whether each of the second flat points lies farther along the heading than each of the first.

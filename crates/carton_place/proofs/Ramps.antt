@@ -13,7 +13,7 @@ use Rattle.carton_model.specs.Turning.{angle_of}
 use Rattle.carton_halfturn.specs.declared.spans.FoldSpan.{FoldSpan}
 use Rattle.carton_halfturn.specs.Spans.{fold_num, fold_den, squares_at}
 use Rattle.carton_halfturn.specs.Joints.{IsFiner}
-use Rattle.carton_halfturn.proofs.Sizes.{squares_positive}
+use Rattle.carton_halfturn.proofs.Forms.{squares_positive}
 use Rattle.carton_halfturn.proofs.Scaling.{cosine_scaled, sine_scaled, square_sum_scaled}
 use Rattle.carton_place.specs.declared.swings.Ramp.{Ramp}
 use Rattle.carton_place.specs.declared.swings.Swing.{Swing}

@@ -6,8 +6,7 @@ use Rattle.std.proofs.lemmas.Int.{ints}
 use Rattle.std.proofs.lemmas.Option.{same_Some, slice_get_within}
 use Rattle.carton_base.specs.declared.limits.TheConstants.{MOST_JOINTS}
 use Rattle.carton_base.specs.declared.motion.State.{State}
-use Rattle.carton_check.specs.Checks.{HasMoves}
-use Rattle.carton_check.specs.Sound.{IsFirst, IsLast, IsMove, IsStrideFrom, IsSound, KeepsApart}
+use Rattle.carton_check.specs.Sound.{IsSound, KeepsApart}
 use Rattle.carton_check.specs.declared.checked.Checked.TheVariants.{Holds}
 use Rattle.carton_check.proofs.Implied.{sound_where}
 use Rattle.carton_model.specs.Moves.{stop_of}
@@ -24,6 +23,8 @@ use Rattle.carton_steps.proofs.Stops.{near_toward, stop_of_moved, either_way}
 use Rattle.carton_text.specs.TaskRules.{IsTask}
 use Rattle.carton_text.specs.declared.plan.Plan.{Plan}
 use Rattle.carton_text.specs.declared.task.Task.{Task}
+use Rattle.carton_text.specs.PlanMoves.{IsFirst, IsLast, IsMove, IsStrideFrom}
+use Rattle.carton_text.specs.TaskPlans.{HasMoves}
 use Rattle.carton_tree.specs.Cartons.{IsCarton}
 use Rattle.carton_tree.specs.Trees.{Tree}
 use Rattle.carton_plan_commands.specs.Plan.{IsBest}
@@ -127,4 +128,5 @@ best s plan right is =
       path = is.path;
       shortest = is.least;
       still = is.still;
+      turns = is.turns;
     }

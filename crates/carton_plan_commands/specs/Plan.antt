@@ -37,9 +37,8 @@ told_plan NoPath = denied no_plan_line
 told_plan (OutOfTurns moves) = spent (turns_line moves)
 
 -- what a plan is that is told: it keeps the rules of its text and is sound, all panels that share no crease
--- stay parted on it, its moves are
--- grid steps, no path that is clear by the slack has fewer of them, and where nothing is to be moved it has
--- one state
+-- stay parted on it, its moves are grid steps, no path that is clear by the slack has fewer of them, where
+-- nothing is to be moved it has one state, and it has at most as many moves as the job has turns
 pub record IsBest (s : Setup) (plan : Plan) : Type 0 where
   pub rules : IsPlan plan
   pub sound : IsSound s.carton s.task plan
@@ -47,6 +46,7 @@ pub record IsBest (s : Setup) (plan : Plan) : Type 0 where
   pub path : IsClearPath s.task s.carton plan.states
   pub shortest : IsShortest s.task s.carton plan.states
   pub still : s.task.start ≡ s.task.target → length plan.states ≡ 1
+  pub turns : moves_of plan.states ≤ s.task.turns
 
 -- no path that is clear by the slack has fewer moves than so many
 abbrev pub HaveAllMoves : Setup → ℕ → Type 0

@@ -6,7 +6,8 @@ use Rattle.carton_enclose.specs.Points.{dot}
 use Rattle.carton_reach.specs.declared.reach.Reach.{Reach}
 use Rattle.carton_reach.specs.Axes.{axis_at}
 use Rattle.carton_reach.specs.Beyond.{Spots, ArePositive, AreCornersParted}
-use Rattle.carton_reach.specs.Reaches.{Within, IsReach, AreReaches, IsApart, IsNear, SomeApart, AllNear, half}
+use Rattle.carton_reach.specs.Reaches.{Within, IsReach, AreReaches, IsApart, IsNear, SomeApart, AllNear}
+use Rattle.carton_reach.specs.Reaches.{half, units_at}
 use Rattle.carton_reach.proofs.Directions.{listed, axis_is}
 use Rattle.carton_reach.proofs.Numbers.{far_apart, not_far, far_back, not_far_back, not_less, turned}
 
@@ -142,15 +143,25 @@ not_parted ps qs i j index depth p q halves wp wq hp hq near n d m c h =
         (subst (λ z. (pos 2 *ℤ (neg_ℤ x *ℤ w)) ≤ℤ (pos 2 *ℤ (z *ℤ v) +ℤ halves *ℤ (w *ℤ v))) g
         (subst (λ z. (pos 2 *ℤ (z *ℤ w)) ≤ℤ (pos 2 *ℤ (b *ℤ v) +ℤ halves *ℤ (w *ℤ v))) f h))
 
+-- at depth 36 the bounds are within half a unit of length, the lows and the highs
+pub close_at_last : {spots : Spots} {from past index depth : ℕ} {v : List ℤ} {r : Reach} → depth ≡ 36
+    → IsReach spots from past index depth v r → (r.least_high ≤ℤ (r.least_low +ℤ pos (2 ^ 38)))
+    × (r.greatest_high ≤ℤ (r.greatest_low +ℤ pos (2 ^ 38)))
+close_at_last {spots} {from} {past} {index} {depth} {v} {r} e h =
+    (last r.least_low r.least_high h.close_lows, last r.greatest_low r.greatest_high h.close_highs)
+  where
+    last : (low high : ℤ) → high ≤ℤ (low +ℤ pos (units_at depth)) → high ≤ℤ (low +ℤ pos (2 ^ 38))
+    last low high c = let l = subst (λ k. high ≤ℤ (low +ℤ pos (units_at k))) e c in omega (arith, ints, l)
+
 -- at depth 36 one of the two holds
 pub close_enough : (ps qs : Spots) (i j index depth : ℕ) (p q : List Reach) (room more : ℤ) → depth ≡ 36
     → (room +ℤ half) ≤ℤ more
     → AreReaches ps 0 i index depth p → AreReaches qs 0 j index depth q → ¬ (SomeApart room p q)
     → AllNear more p q
 close_enough ps qs i j index depth p q room more e wide hp hq none a d l = (
-  close (get_or p a d) (get_or q a d) ((hp a d l).close_highs e) ((hq a d l).close_lows e)
+  close (get_or p a d) (get_or q a d) (close_at_last e (hp a d l)).1 (close_at_last e (hq a d l)).0
       (λ h. none (a, d, l, inl h)),
-  close (get_or q a d) (get_or p a d) ((hq a d l).close_highs e) ((hp a d l).close_lows e)
+  close (get_or q a d) (get_or p a d) (close_at_last e (hq a d l)).1 (close_at_last e (hp a d l)).0
       (λ h. none (a, d, l, inr h)),
 )
   where

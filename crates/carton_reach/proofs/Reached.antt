@@ -1,6 +1,7 @@
 -- The reach of one corner, and of one corner more.
-use Rattle.std.proofs.Common.{◌≡◌, ℕ, ◌+◌, ◌-◌, ◌*◌, ◌<◌, ◌≤◌, ◌^◌, List, ℤ, pos, ◌-ℤ◌, ◌*ℤ◌, ◌≤ℤ◌, ◌<ℤ◌}
-use Rattle.std.proofs.Common.{unsigned_abs, arith, sym, ◌∙◌, subst, ◌⊎◌, inl, inr}
+use Rattle.std.proofs.Common.{◌≡◌, ℕ, zero, suc, ◌+◌, ◌-◌, ◌*◌, ◌<◌, ◌≤◌, ◌^◌, List, ℤ, pos, ◌-ℤ◌, ◌*ℤ◌}
+use Rattle.std.proofs.Common.{◌≤ℤ◌, ◌<ℤ◌}
+use Rattle.std.proofs.Common.{◌+ℤ◌, unsigned_abs, arith, sym, ◌∙◌, subst, ◌⊎◌, inl, inr}
 use Rattle.std.specs.Int.{int_min, int_max}
 use Rattle.std.proofs.lemmas.Int.{ints, clamps, by_lt_z}
 use Rattle.std.proofs.lemmas.Bool.{cases_lt}
@@ -15,7 +16,7 @@ use Rattle.carton_place.specs.Held.{HoldsPosition}
 use Rattle.carton_reach.specs.declared.reach.Reach.{Reach}
 use Rattle.carton_reach.specs.Beyond.{Spots, ArePositive}
 use Rattle.carton_reach.specs.Corners.{HoldsAlong, IsReachAt, IsJoined, IsWidened}
-use Rattle.carton_reach.specs.Reaches.{Within, IsAbove, IsBelow, IsReach}
+use Rattle.carton_reach.specs.Reaches.{Within, IsAbove, IsBelow, IsReach, units_at}
 
 -- the moment of the piece that is this moment of the move
 pub own_moment : (index depth n d : ℕ) → IsMoment n d → InPiece index depth n d
@@ -60,10 +61,18 @@ between holds spread s spots k index depth v r held reach n d m i =
       subst (λ z. (dot v q.x q.y q.z *ℤ unit) ≤ℤ (r.least_high *ℤ z)) w.0 b.upto,
     )
 
+-- two bounds that are no farther apart than the spread are close; over a whole move their sizes are enough
+close_bounds : (low high : ℤ) (wide depth : ℕ) → unsigned_abs low ≤ 2 ^ 66 → unsigned_abs high ≤ 2 ^ 66
+    → (high -ℤ low) ≤ℤ pos wide → (0 < depth → wide ≤ units_at depth)
+    → high ≤ℤ (low +ℤ pos (units_at depth))
+close_bounds low high wide zero a b h narrow = omega (arith, ints, a, b)
+close_bounds low high wide (suc k) a b h narrow = let l = narrow (omega arith) in omega (arith, ints, h, l)
+
 -- the reach of one corner
 pub reach_of_one : {E : Type 0} (holds : Holding E) (spread : E → ℕ) (s : Space E) (spots : Spots)
     (k index depth : ℕ) (v : List ℤ) (r : Reach)
-    → HoldsCorner holds s spots k index depth → (depth ≡ 36 → spread s.x + spread s.y + spread s.z ≤ 2 ^ 38)
+    → HoldsCorner holds s spots k index depth
+    → (0 < depth → spread s.x + spread s.y + spread s.z ≤ units_at depth)
     → IsReachAt holds spread s v r → IsReach spots k (k + 1) index depth v r
 reach_of_one holds spread s spots k index depth v r held narrow reach =
     let only : (j : ℕ) → k ≤ j → j < k + 1 → k ≡ j = λ j a b. omega (arith, a, b) in
@@ -80,8 +89,10 @@ reach_of_one holds spread s spots k index depth v r held narrow reach =
         λ n d m i. subst (λ l. IsAbove v l (spots k n d)) (sym reach.one_low)
             (lies n d m i).0,
       );
-      close_lows = λ e. omega (arith, ints, reach.close, narrow e);
-      close_highs = λ e. omega (arith, ints, reach.close, narrow e, reach.one_low, reach.one_high);
+      close_lows = close_bounds r.least_low r.least_high _ depth r.small_least_low r.small_least_high
+          reach.close narrow;
+      close_highs = close_bounds r.greatest_low r.greatest_high _ depth r.small_greatest_low
+          r.small_greatest_high (omega (arith, ints, reach.close, reach.one_low, reach.one_high)) narrow;
     }
 
 least_is : (x y : ℤ) → (int_min x y ≡ x) ⊎ (int_min x y ≡ y)
@@ -154,16 +165,15 @@ reach_of_both spots from mid past index depth v p q r w fm mp hp hq j = record {
           (sym (j.greatest_low ∙ e)) (s.3 n d m i),
     )
   ];
-  close_lows = λ e. let a = hp.close_lows e in let b = hq.close_lows e in
-      omega (arith, ints, clamps, a, b, j.least_low, j.least_high);
-  close_highs = λ e. let a = hp.close_highs e in let b = hq.close_highs e in
-      omega (arith, ints, clamps, a, b, j.greatest_low, j.greatest_high);
+  close_lows = omega (arith, ints, clamps, hp.close_lows, hq.close_lows, j.least_low, j.least_high);
+  close_highs = omega (arith, ints, clamps, hp.close_highs, hq.close_highs, j.greatest_low, j.greatest_high);
 }
 
 -- the reach with one corner more
 pub reach_of_more : {E : Type 0} (holds : Holding E) (spread : E → ℕ) (s : Space E) (spots : Spots)
     (k index depth : ℕ) (v : List ℤ) (p r : Reach) → ArePositive spots
-    → HoldsCorner holds s spots k index depth → (depth ≡ 36 → spread s.x + spread s.y + spread s.z ≤ 2 ^ 38)
+    → HoldsCorner holds s spots k index depth
+    → (0 < depth → spread s.x + spread s.y + spread s.z ≤ units_at depth)
     → IsReach spots 0 k index depth v p → IsWidened holds spread s v p r
     → IsReach spots 0 (k + 1) index depth v r
 reach_of_more holds spread s spots k index depth v p r w held narrow before more =

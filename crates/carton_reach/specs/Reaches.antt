@@ -1,5 +1,6 @@
 -- How far the corners of a panel reach along an axis, at every moment of a piece. Units are 2^-40.
-use Rattle.std.specs.Prelude.{◌≡◌, ℕ, ◌<◌, ◌≤◌, ◌^◌, List, get_or, ℤ, pos, ◌+ℤ◌, ◌*ℤ◌, ◌≤ℤ◌, ◌<ℤ◌, ◌⊎◌}
+use Rattle.std.specs.Prelude.{ℕ, ◌+◌, ◌-◌, ◌*◌, ◌<◌, ◌≤◌, ◌^◌, List, get_or, ℤ, pos, ◌+ℤ◌, ◌*ℤ◌, ◌≤ℤ◌, ◌<ℤ◌}
+use Rattle.std.specs.Prelude.{◌⊎◌}
 use Rattle.carton_base.specs.Moments.{IsMoment, InPiece}
 use Rattle.carton_base.specs.Rounding.{unit}
 use Rattle.carton_model.specs.Parting.{Position}
@@ -24,7 +25,16 @@ IsBelow v high p = (dot v p.x p.y p.z *ℤ unit) ≤ℤ (high *ℤ p.w)
 abbrev pub SomeCorner : ℕ → ℕ → (ℕ → Type 0) → Type 0
 SomeCorner from past P = (k : ℕ) × (from ≤ k) × (k < past) × P k
 
--- the reach of these corners along the direction over the piece; at depth 36 the bounds of each are close
+-- to how many units the cosine and the sine of a joint are known over a piece of this depth, at most 40: in a
+-- move no joint turns by more than half a right angle, and a piece is 2^-depth of it
+abbrev pub swing_units : ℕ → ℕ
+swing_units depth = 2 ^ (40 - depth) + 2
+
+-- and to how many a corner along an axis, after at most 8 turns
+abbrev pub units_at : ℕ → ℕ
+units_at depth = 3 * 2 ^ 27 * swing_units depth
+
+-- the reach of these corners along the direction over the piece; the shorter the piece, the closer the bounds
 pub record IsReach (spots : Spots) (from past index depth : ℕ) (v : List ℤ) (r : Reach) : Type 0 where
   pub above : (k : ℕ) → from ≤ k → k < past → Within index depth (λ n d. IsAbove v r.least_low (spots k n d))
   pub below : (k : ℕ) → from ≤ k → k < past
@@ -33,8 +43,8 @@ pub record IsReach (spots : Spots) (from past index depth : ℕ) (v : List ℤ) 
       (λ k. Within index depth (λ n d. IsBelow v r.least_high (spots k n d)))
   pub some_above : SomeCorner from past
       (λ k. Within index depth (λ n d. IsAbove v r.greatest_low (spots k n d)))
-  pub close_lows : depth ≡ 36 → r.least_high ≤ℤ (r.least_low +ℤ pos (2 ^ 38))
-  pub close_highs : depth ≡ 36 → r.greatest_high ≤ℤ (r.greatest_low +ℤ pos (2 ^ 38))
+  pub close_lows : r.least_high ≤ℤ (r.least_low +ℤ pos (units_at depth))
+  pub close_highs : r.greatest_high ≤ℤ (r.greatest_low +ℤ pos (units_at depth))
 
 -- the reaches of these corners along the 13 axes
 abbrev pub AreReaches : Spots → ℕ → ℕ → ℕ → ℕ → List Reach → Type 0

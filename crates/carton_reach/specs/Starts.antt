@@ -10,7 +10,7 @@ use Rattle.carton_place.specs.Sizes.{edge_of_sheet}
 use Rattle.carton_place.specs.Swings.{IsFlatWithin}
 use Rattle.carton_tree.specs.declared.start.Start.{Start}
 use Rattle.carton_reach.specs.Beyond.{Spots, ArePositive}
-use Rattle.carton_reach.specs.Reaches.{Within}
+use Rattle.carton_reach.specs.Reaches.{Within, swing_units}
 
 -- the start of a flat point of the sheet: both coordinates are known to one unit
 pub record IsNearStart (s : Start) : Type 0 where
@@ -29,16 +29,12 @@ pub record IsTurnedFrom (turns : List Turn) (swings : List Swing) (s : Start) (m
   pub start : IsFlatWithin s.x s.y flat
   pub after : p ≡ turned_through turns angles flat
 
--- to how many units cosines and sines are known at depth 36, where no joint changes by more than four stops
-abbrev pub most_units : ℕ
-most_units = 18
-
 -- at every moment of the piece the corners stand where the turns take the starts, by angles that the swings
--- have at that moment of the piece
+-- have at that moment of the piece; below depth 0 these are known to so many units
 pub record AreTurnedFrom (turns : List Turn) (swings : List Swing) (starts : List Start) (spots : Spots)
     (index depth : ℕ) : Type 0 where
   pub positive : ArePositive spots
   pub turned : (k : ℕ) (s : Start) → k < length starts
       → Within index depth (λ n d. IsTurnedFrom turns swings (get_or starts k s) (n * 2 ^ depth - index * d) d
       (spots k n d))
-  pub close : depth ≡ 36 → All (IsSwingWithin most_units) swings
+  pub close : 0 < depth → All (IsSwingWithin (swing_units depth)) swings

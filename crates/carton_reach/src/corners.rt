@@ -1,4 +1,4 @@
-ghost use Rattle.std.specs.Prelude.{◌≡◌, ℕ, ◌<◌, ◌≤◌, ◌^◌, ◌+◌, length, List, ℤ, All};
+ghost use Rattle.std.specs.Prelude.{◌≡◌, ℕ, ◌<◌, ◌≤◌, ◌^◌, ◌+◌, ◌*◌, length, List, ℤ, All};
 ghost use Rattle.carton_base.specs.Moments.{IsMoment};
 ghost use Rattle.carton_base.specs.declared.limits.TheConstants.{LONGEST_PATH};
 ghost use Rattle.carton_model.specs.Parting.{Position};
@@ -10,7 +10,7 @@ ghost use Rattle.carton_reach.specs.Beyond.{Spots};
 ghost use Rattle.carton_reach.specs.Corners.{IsAlong, IsReachAt, AreReachesAt, AreWidened};
 ghost use Rattle.carton_reach.specs.Reaches.{AreReaches};
 ghost use Rattle.carton_reach.specs.Spots.{shape_at};
-ghost use Rattle.carton_reach.specs.Starts.{AreTurnedFrom, IsNearStart, IsTurnedFrom, most_units};
+ghost use Rattle.carton_reach.specs.Starts.{AreTurnedFrom, IsNearStart, IsTurnedFrom};
 
 use crate::reach::{Reach, Reaches};
 use carton_base::{PanelId, Turn};
@@ -27,8 +27,8 @@ fn corner_at<E: Enclose>(turns: &[Turn], swings: &[Swing], start: Start) -> Spac
     ensures holds { (m d : ℕ) (p : Position) → IsMoment m d → IsTurnedFrom turns.now swings.now start m d p
         → HoldsPosition E.holds result m d p }
     ensures size { greatest E.size result ≤ 2 ^ 63 }
-    ensures close { All (IsSwingWithin most_units) swings.now
-        → E.spread result.x + E.spread result.y + E.spread result.z ≤ 2 ^ 38 }
+    ensures close { (e : ℕ) → 2 ≤ e → All (IsSwingWithin e) swings.now
+        → E.spread result.x + E.spread result.y + E.spread result.z ≤ 3 * 2 ^ 27 * e }
 {
     place_from(turns, swings, start.x, start.y)
 }

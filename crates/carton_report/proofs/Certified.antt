@@ -5,8 +5,8 @@ use Rattle.carton_base.specs.declared.motion.Motion.{Motion}
 use Rattle.carton_base.specs.declared.motion.State.{State}
 use Rattle.carton_tree.specs.Trees.{Tree}
 use Rattle.carton_part.specs.Parted.{AreAllParted}
-use Rattle.carton_check.specs.Sound.{IsMove, folds_between}
-use Rattle.carton_check.proofs.Moves.{of_move}
+use Rattle.carton_text.specs.PlanMoves.{IsMove, folds_between}
+use Rattle.carton_text.proofs.PlanMoves.{of_move}
 use Rattle.carton_report.specs.declared.tightest.Tight.{Tight}
 use Rattle.carton_report.specs.Clearances.{IsCertified, IsTightest}
 use Rattle.carton_report.specs.Tightest.{AllStayClear, IsTight}
@@ -18,10 +18,10 @@ certified t states i clear m is h =
     → AreAllParted t (folds_between x y k d) (pos 2 *ℤ (pos clear -ℤ pos 1))) states i m.from m.to s r is n
     (λ k d at a b apart. h a b apart k d at)
 
-pub tightest : (t : Tree) (slack : ℕ) (states : List State) (i : ℕ) (m : Motion) (tight : Tight)
-    → IsMove states i m.from m.to → IsTight t m slack tight → AllStayClear t m tight.clear
-    → IsTightest t slack states i tight.clear tight.a.0 tight.b.0 tight.moment
-tightest t slack states i m tight is h all = record {
+pub tightest : (t : Tree) (states : List State) (i : ℕ) (m : Motion) (tight : Tight)
+    → IsMove states i m.from m.to → IsTight t m tight → AllStayClear t m tight.clear
+    → IsTightest t states i tight.clear tight.a.0 tight.b.0 tight.moment
+tightest t states i m tight is h all = record {
   narrow = h.narrow;
   certified = certified t states i tight.clear m is all;
   strangers = h.strangers;

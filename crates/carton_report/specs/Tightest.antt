@@ -17,15 +17,15 @@ abbrev pub AllStayClear : Tree → Motion → ℕ → Type 0
 AllStayClear t motion clear = (a b : ℕ) → AreStrangers t a b → StayClear t motion a b clear
 
 -- how near panels a and b come
-pub record IsNearOf (t : Tree) (motion : Motion) (a b slack : ℕ) (near : Near) : Type 0 where
+pub record IsNearOf (t : Tree) (motion : Motion) (a b : ℕ) (near : Near) : Type 0 where
   pub certified : StayClear t motion a b near.clear
-  pub there : AreUnparted t motion a b (pos near.clear) slack near.moment
+  pub there : AreUnparted t motion a b (pos near.clear) 1 near.moment
 
 -- panels that share no crease and aren't parted well at the moment
-pub record IsTight (t : Tree) (motion : Motion) (slack : ℕ) (tight : Tight) : Type 0 where
+pub record IsTight (t : Tree) (motion : Motion) (tight : Tight) : Type 0 where
   pub narrow : tight.clear < WIDE_CLEARANCE
   pub strangers : AreStrangers t tight.a.0 tight.b.0
-  pub near : AreUnparted t motion tight.a.0 tight.b.0 (pos tight.clear) slack tight.moment
+  pub near : AreUnparted t motion tight.a.0 tight.b.0 (pos tight.clear) 1 tight.moment
 
 -- how far the panels that were looked at are known to stay parted
 abbrev pub clearance_of : Option Tight → ℕ

@@ -6,5 +6,5 @@ mod narrowing;
 mod reporting;
 mod tightest;
 
-pub use cleared::{Cleared, Row, WIDE_CLEARANCE};
+pub use cleared::{Cleared, Row, WIDE_CLEARANCE, limits_in_numbers};
 pub use reporting::clearances;

@@ -11,22 +11,19 @@ use carton_part::{Parting, part_over};
 use carton_tree::Carton;
 
 /// How near two panels come in a move, in dieline units: they stay parted by more than clear - 1, and
-/// at this moment they aren't parted by more than clear + slack/2.
+/// at this moment they aren't parted by more than clear + 1/2.
 #[derive(Clone, Copy)]
 pub struct Near {
     pub clear: u16,
     pub moment: Moment,
 }
 
-/// A move that is judged by a slack.
+/// A move of a carton whose clearance is asked.
 #[derive(Clone, Copy)]
 pub struct JudgedMove<'a> {
     pub carton: &'a Carton,
     pub motion: &'a Motion,
-    pub slack: u16,
     pub ghost moves: { IsMotion MOST_JOINTS motion.now },
-    pub ghost some_slack: { 1 ≤ slack },
-    pub ghost narrow_slack: { slack ≤ 1000 },
 }
 
 impl JudgedMove<'_> {
@@ -35,13 +32,12 @@ impl JudgedMove<'_> {
         requires a { a.0 < length self.now.carton.now.panels }
         requires b { b.0 < length self.now.carton.now.panels }
         requires gap { gap < WIDE_CLEARANCE }
-        ensures { IsPartingOf self.now.carton.now self.now.motion.now a.0 b.0 (pos gap) self.now.slack
-            result }
+        ensures { IsPartingOf self.now.carton.now self.now.motion.now a.0 b.0 (pos gap) 1 result }
     {
-        part_over::<Fix>(self.carton, self.motion, a, b, i64::from(gap), self.slack)
+        part_over::<Fix>(self.carton, self.motion, a, b, i64::from(gap), 1)
     }
 
-    // How near two panels come that aren't parted by more than first.clear + slack/2 at its moment. The
+    // How near two panels come that aren't parted by more than first.clear + 1/2 at its moment. The
     // moment that was told of a gap is kept with it, since a second answer may tell another.
     fn narrowed(&self, a: PanelId, b: PanelId, first: Near) -> Near
         requires a { a.0 < length self.now.carton.now.panels }
@@ -49,8 +45,8 @@ impl JudgedMove<'_> {
         requires apart { StayParted self.now.carton.now self.now.motion.now a.0 b.0 (pos 0) }
         requires narrow { first.clear < WIDE_CLEARANCE }
         requires first { AreUnparted self.now.carton.now self.now.motion.now a.0 b.0 (pos first.clear)
-            self.now.slack first.moment }
-        ensures near { IsNearOf self.now.carton.now self.now.motion.now a.0 b.0 self.now.slack result }
+            1 first.moment }
+        ensures near { IsNearOf self.now.carton.now self.now.motion.now a.0 b.0 result }
         ensures less { result.clear ≤ first.clear }
     {
         let mut certified = 0;
@@ -72,7 +68,7 @@ impl JudgedMove<'_> {
         requires apart { StayParted self.now.carton.now self.now.motion.now a.0 b.0 (pos 0) }
         requires clear { clear ≤ WIDE_CLEARANCE }
         ensures near { IfSome result
-            (IsNearOf self.now.carton.now self.now.motion.now a.0 b.0 self.now.slack) }
+            (IsNearOf self.now.carton.now self.now.motion.now a.0 b.0) }
         ensures less { IfSome result (λ n. n.clear < clear) }
         ensures none { result ≡ None → StayClear self.now.carton.now self.now.motion.now a.0 b.0 clear }
     {

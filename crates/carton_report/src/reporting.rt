@@ -1,32 +1,29 @@
 ghost use Rattle.std.specs.Prelude.{◌≡◌, ℕ, ◌+◌, ◌<◌, ◌≤◌, List, length, pos, ◌*ℤ◌, IfOk};
-ghost use Rattle.carton_base.specs.declared.limits.TheConstants.{WIDEST_SLACK};
 ghost use Rattle.carton_text.specs.PlanRules.{IsPlan};
 ghost use Rattle.carton_text.specs.TaskRules.{IsTask};
-ghost use Rattle.carton_check.specs.Checks.{HasMoves};
+ghost use Rattle.carton_text.specs.PlanMoves.{AreMoves};
+ghost use Rattle.carton_text.specs.TaskPlans.{HasMoves};
 ghost use Rattle.carton_check.specs.Sound.{IsSound, KeepsApart};
-ghost use Rattle.carton_check.specs.Steps.{AreMoves};
 ghost use Rattle.carton_report.specs.Clearances.{AreRows, IsCleared, IsRow, IsRowsOrMemory};
 
 use crate::cleared::{Cleared, Row};
 use crate::tightest::{Tight, tightest};
 use carton_base::{Listed, OutOfMemory, State};
-use carton_check::{Checked, check, move_at};
-use carton_text::{Plan, Task};
+use carton_check::{Checked, check};
+use carton_text::{Plan, Task, move_at};
 use carton_tree::Carton;
 use std::alloc::Global;
 
 // The row of move i, in which all panels keep apart.
-fn row_at(carton: &Carton, slack: u16, states: &[State], i: usize) -> Row
+fn row_at(carton: &Carton, states: &[State], i: usize) -> Row
     requires moves { AreMoves states.now }
     requires inside { i + 1 < length states.now }
-    requires some { 1 ≤ slack }
-    requires narrow { slack ≤ WIDEST_SLACK }
     requires apart { KeepsApart carton.now states.now (pos 0) }
-    ensures { IsRow carton.now slack states.now i result }
+    ensures { IsRow carton.now states.now i result }
 {
     let step = i as u32;
     let motion = move_at(states, i);
-    match tightest(carton, &motion, slack) {
+    match tightest(carton, &motion) {
         Some(
             Tight {
                 clear,
@@ -46,23 +43,16 @@ fn row_at(carton: &Carton, slack: u16, states: &[State], i: usize) -> Row
 }
 
 // The rows of all moves, in order.
-fn rows(
-    alloc: Global,
-    carton: &Carton,
-    slack: u16,
-    states: &[State],
-) -> Result<Listed<Row>, OutOfMemory>
+fn rows(alloc: Global, carton: &Carton, states: &[State]) -> Result<Listed<Row>, OutOfMemory>
     requires moves { AreMoves states.now }
     requires some_state { 1 ≤ length states.now }
-    requires some { 1 ≤ slack }
-    requires narrow { slack ≤ WIDEST_SLACK }
     requires apart { KeepsApart carton.now states.now (pos 0) }
     ensures count { IfOk result (λ rows. length rows + 1 ≡ length states.now) }
-    ensures each { IfOk result (AreRows carton.now slack states.now) }
+    ensures each { IfOk result (AreRows carton.now states.now) }
 {
     let mut rows = Listed::new(alloc);
     for i in 0..states.len() - 1 {
-        rows.push(row_at(carton, slack, states, i))?;
+        rows.push(row_at(carton, states, i))?;
     }
     Ok(rows)
 }
@@ -81,7 +71,7 @@ pub fn clearances(alloc: Global, carton: &Carton, task: &Task, plan: &Plan) -> C
     let Checked::Holds(_) = answer else {
         return Cleared::Fails(answer);
     };
-    match rows(alloc, carton, task.slack, plan.states.as_slice()) {
+    match rows(alloc, carton, plan.states.as_slice()) {
         Ok(rows) => Cleared::Rows(rows),
         Err(_) => Cleared::Memory,
     }

@@ -35,8 +35,8 @@ impl JudgedMove<'_> {
         requires order { a.0 < b.0 }
         requires b { b.0 < length self.now.carton.now.panels }
         requires apart { StayAllParted self.now.carton.now self.now.motion.now (pos 0) }
-        requires so_far { IfSome so_far (IsTight self.now.carton.now self.now.motion.now self.now.slack) }
-        ensures tight { IfSome result (IsTight self.now.carton.now self.now.motion.now self.now.slack) }
+        requires so_far { IfSome so_far (IsTight self.now.carton.now self.now.motion.now) }
+        ensures tight { IfSome result (IsTight self.now.carton.now self.now.motion.now) }
         ensures less { clearance_of result ≤ clearance_of so_far }
         ensures clear { AreStrangers self.now.carton.now a.0 b.0
             → StayClear self.now.carton.now self.now.motion.now a.0 b.0 (clearance_of result) }
@@ -59,8 +59,8 @@ impl JudgedMove<'_> {
     fn with_panel(&self, a: PanelId, so_far: Option<Tight>) -> Option<Tight>
         requires a { a.0 < length self.now.carton.now.panels }
         requires apart { StayAllParted self.now.carton.now self.now.motion.now (pos 0) }
-        requires so_far { IfSome so_far (IsTight self.now.carton.now self.now.motion.now self.now.slack) }
-        ensures tight { IfSome result (IsTight self.now.carton.now self.now.motion.now self.now.slack) }
+        requires so_far { IfSome so_far (IsTight self.now.carton.now self.now.motion.now) }
+        ensures tight { IfSome result (IsTight self.now.carton.now self.now.motion.now) }
         ensures less { clearance_of result ≤ clearance_of so_far }
         ensures clear { (b : ℕ) → AreStrangers self.now.carton.now a.0 b
             → StayClear self.now.carton.now self.now.motion.now a.0 b (clearance_of result) }
@@ -75,18 +75,13 @@ impl JudgedMove<'_> {
 }
 
 /// The tightest pair of panels in a move, None where all stay parted by more than 9999.
-pub fn tightest(carton: &Carton, motion: &Motion, slack: u16) -> Option<Tight>
+pub fn tightest(carton: &Carton, motion: &Motion) -> Option<Tight>
     requires motion { IsMotion MOST_JOINTS motion.now }
-    requires slack { (1 ≤ slack) × (slack ≤ 1000) }
     requires apart { StayAllParted carton.now motion.now (pos 0) }
-    ensures tight { IfSome result (IsTight carton.now motion.now slack) }
+    ensures tight { IfSome result (IsTight carton.now motion.now) }
     ensures clear { AllStayClear carton.now motion.now (clearance_of result) }
 {
-    let judged = JudgedMove {
-        carton,
-        motion,
-        slack,
-    };
+    let judged = JudgedMove { carton, motion };
     let mut found = None;
     for a in 0..carton.panels() {
         found = judged.with_panel(PanelId(a), found);

@@ -1,10 +1,11 @@
 -- A plan is found where a slack path is within the budget, unless memory runs out: by what the other ends
 -- say.
-use Rattle.std.proofs.Common.{◌≡◌, ◌<◌, ◌≤◌, List, length, inl, inr, arith}
+use Rattle.std.proofs.Common.{◌≡◌, ◌+◌, ◌<◌, ◌≤◌, List, length, inl, inr, arith}
 use Rattle.carton_base.specs.declared.motion.State.{State}
 use Rattle.carton_tree.specs.Trees.{Tree}
 use Rattle.carton_text.specs.declared.task.Task.{Task}
 use Rattle.carton_steps.specs.Steps.{IsGridStep}
+use Rattle.carton_steps.specs.Estimates.{estimate_of}
 use Rattle.carton_search.specs.declared.search_end.SearchEnd.{SearchEnd}
 use Rattle.carton_search.specs.declared.search_end.SearchEnd.TheVariants.{Found, StartBlocked, NoPath}
 use Rattle.carton_search.specs.declared.search_end.SearchEnd.TheVariants.{OutOfTurns, Memory}
@@ -26,8 +27,8 @@ budget task carton (OutOfTurns moves) is p path within =
     elim is.cause [
       | inl many ↦
           let l : length many.0 ≤ task.turns = within.1 many.0 many.2 (λ i s h.
-          let r = many.3 i s h in
-          let m : moves_of r.0 ≤ moves = r.2 in (
+          let r = (many.3 i s h).1 in
+          let m : moves_of r.0 + estimate_of task s ≤ moves = r.2 in (
             r.0,
             path_wider (ClearStep task carton) (IsGridStep task) (λ a b c. c.0) task.start s r.0 r.1,
             omega (arith, m, few),

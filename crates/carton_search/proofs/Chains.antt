@@ -188,11 +188,12 @@ picked_push (x ∷ es) y t = more x.tried (picked_push es y t)
     more true k = omega (arith, k)
     more false k = k
 
--- where more than `turns` nodes are tried, all of them are that near
-pub out_of_turns : (C : State → State → Type 0) (h : State → ℕ) (start : State) (es : List Entry)
-    (last turns : ℕ) → Stands C h start es last → turns < length (picked es)
-    → AreManyWithin C start turns last
-out_of_turns C h start es last turns s many = (
+-- where more than `turns` nodes are tried, none of which is the target, all of them are that near
+pub out_of_turns : (C : State → State → Type 0) (h : State → ℕ) (start target : State) (es : List Entry)
+    (last turns : ℕ) → Stands C h start es last
+    → ((j : ℕ) (f : Entry) → slice_get es j ≡ Some f → f.tried ≡ true → f.state ≡ target → ⊥)
+    → turns < length (picked es) → AreManyWithin C h start target turns last
+out_of_turns C h start target es last turns s others many = (
   picked es,
   many,
   picked_different es s.tree.apart,
@@ -202,5 +203,8 @@ out_of_turns C h start es last turns s many = (
       let l : length c.path ≡ r.1.moves + 1 = c.long in
       let m : moves_of c.path + 1 ≡ length c.path = moves_long c.path (omega (arith, l)) in
       let k : r.1.moves + h r.1.state ≤ last = s.early r.0 r.1 r.2 r.4 in
-      (c.path, subst (λ b. IsPath C start b c.path) r.3 c.is, omega (arith, l, m, k))),
+      let v : h r.1.state ≡ h x = ap h r.3 in (
+        (λ t. others r.0 r.1 r.2 r.4 (r.3 ∙ t)),
+        (c.path, subst (λ b. IsPath C start b c.path) r.3 c.is, omega (arith, l, m, k, v)),
+      )),
 )

@@ -6,7 +6,6 @@ use Rattle.carton_text.specs.TaskRules.{IsTask}
 use Rattle.carton_steps.specs.Steps.{IsGridStep, IsStateOf}
 use Rattle.carton_steps.specs.Estimates.{estimate_of}
 use Rattle.carton_steps.proofs.Falling as falling
-use Rattle.carton_steps.proofs.Bounds as bounds
 use Rattle.carton_steps.proofs.Moves.{grid_step_moves, is_start, still_of}
 use Rattle.carton_search.specs.Paths.{Follows, last_of, IsPath}
 
@@ -30,4 +29,4 @@ module _ (task : Task) (rules : IsTask task) where
         subst (IsStateOf task) path.2 (follows_keep task.start rest (is_start task rules) path.1)
 
     pub low_along : (s : State) (p : List State) → IsPath R task.start s p → estimate_of task s ≤ 768
-    low_along s p path = bounds.low task s rules (path_keeps s p path).state
+    low_along s p path = falling.low task s rules (path_keeps s p path).state

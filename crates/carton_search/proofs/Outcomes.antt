@@ -9,7 +9,7 @@ use Rattle.carton_text.specs.TaskRules.{IsTask}
 use Rattle.carton_queue.specs.Waits.{Waiting, nodes_of, priority_of, with_entry, IsLeast, IsEmpty}
 use Rattle.carton_queue.proofs.CallerLemmas.{here, elsewhere, nodes-with_entry}
 use Rattle.carton_steps.specs.Estimates.{estimate_of}
-use Rattle.carton_steps.proofs.Bounds as bounds
+use Rattle.carton_steps.proofs.Falling as falling
 use Rattle.carton_search.specs.declared.known.Entry.{Entry}
 use Rattle.carton_search.specs.declared.exploring.Outcome.TheVariants.{Arrived, NoWay, Stopped}
 use Rattle.carton_search.specs.Clear.{ClearStep, SlackStep}
@@ -20,7 +20,9 @@ use Rattle.carton_search.specs.Turns.{steps_of, room_of, Going, AreLeast, IsOutc
 use Rattle.carton_search.proofs.Frontier as front
 use Rattle.carton_search.proofs.Priorities.{below}
 use Rattle.carton_search.proofs.Keeping.{step_falls}
-use Rattle.carton_search.proofs.Turning.{the_entry, e_priority, taken_stands, taken_picks}
+use Rattle.carton_search.proofs.Best.{changed_get}
+use Rattle.carton_search.proofs.Places.{set_changed}
+use Rattle.carton_search.proofs.Turning.{the_entry, there_is, e_priority, taken_stands, taken_picks}
 use Rattle.carton_search.proofs.Chains.{out_of_turns}
 
 module _ (task : Task) (carton : Tree) (rules : IsTask task) where
@@ -31,7 +33,7 @@ module _ (task : Task) (carton : Tree) (rules : IsTask task) where
     -- nothing waits
     pub no_way : k.dropped ≡ false → IsEmpty k.waiting → IsOutcome task carton k NoWay
     no_way d empty = front.none (SlackStep task carton) (estimate_of task) task.target slack_falls
-        (bounds.none_left task rules) k.entries o.closed (ClearStep task carton) task.start o.stands.tree
+        (falling.none_left task rules) k.entries o.closed (ClearStep task carton) task.start o.stands.tree
         (priority_of k.waiting)
         (subst (Queued (ClearStep task carton) (estimate_of task) task.start k.entries
         (priority_of k.waiting)) d o.queued) empty
@@ -39,7 +41,7 @@ module _ (task : Task) (carton : Tree) (rules : IsTask task) where
     pub too_far : k.dropped ≡ true → IsEmpty k.waiting → IsOutcome task carton k (Stopped 4096)
     too_far d empty = (
       front.far (SlackStep task carton) (estimate_of task) task.target slack_falls
-          (bounds.none_left task rules) k.entries o.closed (ClearStep task carton) task.start o.stands.tree
+          (falling.none_left task rules) k.entries o.closed (ClearStep task carton) task.start o.stands.tree
           (priority_of k.waiting) k.dropped o.queued empty,
       inr (refl, o.queued.far d),
     )
@@ -49,7 +51,7 @@ module _ (task : Task) (carton : Tree) (rules : IsTask task) where
         (there : slice_get k.entries number ≡ Some e) where
       few_moves : AreLeast task carton p
       few_moves = front.least (SlackStep task carton) (estimate_of task) task.target slack_falls
-          (bounds.none_left task rules) k.entries o.closed (ClearStep task carton) task.start o.stands.tree
+          (falling.none_left task rules) k.entries o.closed (ClearStep task carton) task.start o.stands.tree
           (priority_of k.waiting) k.dropped p o.queued
           (the_entry task carton rules k turns last o number p least).4 least.1
 
@@ -57,16 +59,30 @@ module _ (task : Task) (carton : Tree) (rules : IsTask task) where
       priority_is = e_priority task carton rules k turns last o number p least e (record e { tried = true })
           there refl refl refl refl
 
-      pub stopped : task.turns ≤ turns → (after : Knowledge) → IsOutcome task carton after (Stopped p)
-      stopped past after =
+      -- no tried state is the target, nor is this one
+      others : (e.state ≡ task.target → ⊥) → (j : ℕ) (f : Entry)
+          → slice_get (set k.entries number (record e { tried = true })) j ≡ Some f → f.tried ≡ true
+          → f.state ≡ task.target → ⊥
+      others other j f g t same =
+          let y : Entry = record e { tried = true } in
+          let found = there_is task carton rules k turns last o number p least in
+          elim (changed_get k.entries (set k.entries number y) number y
+          (set_changed k.entries number y found) j f g) [
+            | inl a ↦ other (sym (ap (λ z. z.state) a.1) ∙ same)
+            | inr b ↦ (o.closed j f b.1 t).other same
+          ]
+
+      pub stopped : task.turns ≤ turns → (e.state ≡ task.target → ⊥) → (after : Knowledge)
+          → IsOutcome task carton after (Stopped p)
+      stopped past other after =
           let y : Entry = record e { tried = true } in
           let t : length (picked (set k.entries number y)) ≡ turns + 1 =
           taken_picks task carton rules k turns last o number p least e y there refl refl refl refl in (
             few_moves,
-            inl (out_of_turns (ClearStep task carton) (estimate_of task) task.start (set k.entries number y) p
-                task.turns
+            inl (out_of_turns (ClearStep task carton) (estimate_of task) task.start task.target
+                (set k.entries number y) p task.turns
                 (taken_stands task carton rules k turns last o number p least e y there refl refl refl refl)
-                (omega (arith, t, past))),
+                (others other) (omega (arith, t, past))),
           )
 
       pub arrived : e.state ≡ task.target → (after : Knowledge) → after.entries ≡ k.entries
@@ -80,6 +96,10 @@ module _ (task : Task) (carton : Tree) (rules : IsTask task) where
             there = ap (λ es. slice_get es number) same ∙ there;
             target = target;
             few = omega (arith, pe, few);
+            near =
+                let b : e.moves ≤ turns = o.near number e there in
+                let t : turns ≤ task.turns = o.few in
+                omega (arith, b, t);
             least = λ w path. let m : p ≤ moves_of w = few_moves w path in omega (arith, m, pe);
           }
 
@@ -156,12 +176,15 @@ module _ (task : Task) (carton : Tree) (rules : IsTask task) where
         picks = ap (λ b. length (picked (record e { tried = b } ∷ []))) waits;
         long = omega arith;
         few = omega arith;
+        near = λ i x g.
+            let m : x.moves ≡ e.moves = ap (λ z. z.moves) (get_only e x i g).1 in
+            omega (arith, m, none);
       }
 
     pub started : (number p : ℕ) → number ≡ 0 → p ≡ estimate_of task task.start
         → Going task carton (with_priority before number p) 0 0
     started number p is_number is =
-        let low : estimate_of task task.start ≤ 768 = bounds.low task task.start rules rules.start in
+        let low : estimate_of task task.start ≤ 768 = falling.low task task.start rules rules.start in
         let few : p ≤ 768 = omega (arith, low, is) in
         subst (λ n. Going task carton (with_priority before n p) 0 0) (sym is_number)
         (subst (λ b. Going task carton (if b then record before { waiting = with_entry k.waiting 0 (Some p) }

@@ -123,6 +123,12 @@ module _ (task : Task) (carton : Tree) (rules : IsTask task) where
         clear = clear;
         least = shortest;
         still = still;
+        turns =
+            let l : length states ≡ a.entry.moves + 1 = parents.1 in
+            let t : a.entry.moves ≤ task.turns = a.near in
+            let n : moves_of states + 1 ≡ length states =
+            path_long (ClearStep task carton) task.start task.target states clear_path in
+            omega (arith, l, t, n);
         blocked = tt;
         none = tt;
         begun = tt;
@@ -139,6 +145,7 @@ module _ (task : Task) (carton : Tree) (rules : IsTask task) where
     clear = tt;
     least = tt;
     still = tt;
+    turns = tt;
     blocked = near;
     none = tt;
     begun = tt;
@@ -154,6 +161,7 @@ module _ (task : Task) (carton : Tree) (rules : IsTask task) where
     clear = tt;
     least = tt;
     still = tt;
+    turns = tt;
     blocked = tt;
     none = λ p path. way p path.0;
     begun = clear;
@@ -169,6 +177,7 @@ module _ (task : Task) (carton : Tree) (rules : IsTask task) where
     clear = tt;
     least = tt;
     still = tt;
+    turns = tt;
     blocked = tt;
     none = tt;
     begun = tt;

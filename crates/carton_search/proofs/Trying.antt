@@ -12,7 +12,7 @@ use Rattle.carton_queue.specs.Waits.{Waiting, nodes_of, priority_of, with_entry}
 use Rattle.carton_queue.proofs.CallerLemmas.{here, elsewhere, nodes-with_entry}
 use Rattle.carton_steps.specs.Steps.{IsGridStep, IsStateOf, step_of}
 use Rattle.carton_steps.specs.Estimates.{estimate_of}
-use Rattle.carton_steps.proofs.Numbered.{grid_step_of}
+use Rattle.carton_steps.proofs.Moves.{grid_step_of}
 use Rattle.carton_search.specs.declared.known.Entry.{Entry}
 use Rattle.carton_search.specs.Clear.{ClearStep, SlackStep, StayApart, slack_of}
 use Rattle.carton_search.specs.Known.{Has, Reached, Stands, Queued, Changed, picked}
@@ -20,7 +20,7 @@ use Rattle.carton_search.specs.Knowledge.{Knowledge, queued_at, with_priority}
 use Rattle.carton_search.specs.Turns.{steps_of, HasRoom, Trying}
 use Rattle.carton_search.proofs.Lists.{get_within, same_get, split}
 use Rattle.carton_search.proofs.Best.{Fresh, IsNext, reached_changed, closed_changed, stands_changed}
-use Rattle.carton_search.proofs.Best.{place_kept, queued_put, queued_drop, not_queued}
+use Rattle.carton_search.proofs.Best.{changed_get, place_kept, queued_put, queued_drop, not_queued}
 use Rattle.carton_search.proofs.Chains.{chain, far_path, picked_write, picked_push}
 use Rattle.carton_search.proofs.Places.{push_changed, set_changed}
 use Rattle.carton_search.proofs.Priorities.{few_queued, many_queued, under, over}
@@ -55,6 +55,8 @@ module _ (task : Task) (carton : Tree) (rules : IsTask task) (k : Knowledge) (nu
     long = let l : length k.entries + steps_of task ≤ 1 + steps_of task * count + n = o.long in
         omega (arith, l);
     turns = o.turns;
+    near = o.near;
+    before = o.before;
   }
 
   pub pass_none : step_of task from n ≡ None → Trying task carton k number entry count (n + 1)
@@ -198,6 +200,14 @@ module _ (task : Task) (carton : Tree) (rules : IsTask task) (k : Knowledge) (nu
         long = let l : length k.entries + steps_of task ≤ 1 + steps_of task * count + n = o.long in
             omega (arith, l, long);
         turns = o.turns;
+        near = λ i e h. elim (changed_get k.entries new j next c i e h) [
+          | inl a ↦
+              let m : e.moves ≡ moves = ap (λ z. z.moves) a.1 in
+              let b : entry.moves + 1 ≤ count = o.before in
+              omega (arith, m, b)
+          | inr b ↦ o.near i e b.1
+        ];
+        before = o.before;
       }
 
       put_low : (p : ℕ) → p ≡ moves + estimate_of task to → p < 4096

@@ -8,13 +8,14 @@ use Rattle.carton_text.specs.TaskRules.{IsTask}
 use Rattle.carton_queue.specs.Waits.{Waiting, priority_of, with_entry, IsLeast}
 use Rattle.carton_queue.proofs.CallerLemmas.{here, elsewhere, within, nodes-with_entry}
 use Rattle.carton_steps.specs.Estimates.{estimate_of}
-use Rattle.carton_steps.proofs.Numbered.{number_of_step}
+use Rattle.carton_steps.proofs.Moves.{number_of_step}
 use Rattle.carton_search.specs.declared.known.Entry.{Entry}
 use Rattle.carton_search.specs.Clear.{ClearStep, SlackStep}
 use Rattle.carton_search.specs.Known.{IsClosed, Stands, Changed, picked}
 use Rattle.carton_search.specs.Knowledge.{Knowledge}
 use Rattle.carton_search.specs.Turns.{steps_of, Trying, Going}
 use Rattle.carton_search.proofs.Lists.{get_within, same_get, which}
+use Rattle.carton_search.proofs.Best.{changed_get}
 use Rattle.carton_search.proofs.Take.{IsMarked, stands_marked, queued_marked, closed_marked}
 use Rattle.carton_search.proofs.Chains.{picked_set}
 use Rattle.carton_search.proofs.Places.{set_changed}
@@ -44,6 +45,7 @@ module _ (task : Task) (carton : Tree) (rules : IsTask task) where
       long = let l : length k.entries + steps_of task ≤ 1 + steps_of task * count + steps_of task = o.long in
           omega (arith, l);
       few = o.turns;
+      near = o.near;
     }
 
   -- a state is taken from the queue
@@ -132,4 +134,12 @@ module _ (task : Task) (carton : Tree) (rules : IsTask task) where
             picks = taken_picks;
             long = omega (arith, l, length-set k.entries number y);
             turns = omega (arith, fewer);
+            near = λ i x h. elim (changed_get k.entries (set k.entries number y) number y set_here i x h) [
+              | inl a ↦
+                  let m : x.moves ≡ y.moves = ap (λ z. z.moves) a.1 in
+                  let b : e.moves ≤ turns = o.near number e there in
+                  omega (arith, m, ms, b)
+              | inr c ↦ let b : x.moves ≤ turns = o.near i x c.1 in omega (arith, b)
+            ];
+            before = let b : e.moves ≤ turns = o.near number e there in omega (arith, ms, b);
           }

@@ -5,6 +5,7 @@ use Rattle.carton_base.specs.declared.limits.TheConstants.{MOST_STATES}
 use Rattle.carton_base.specs.declared.motion.State.{State}
 use Rattle.carton_place.specs.States.{fold_in}
 use Rattle.carton_part.specs.Parted.{AreStrangers, ArePartedBy}
+use Rattle.carton_steps.specs.Estimates.{estimate_of}
 use Rattle.carton_text.specs.PlanRules.{AreCreases, IsPlan}
 use Rattle.carton_tree.specs.Trees.{Tree}
 use Rattle.carton_text.specs.declared.plan.Plan.{Plan}
@@ -36,11 +37,12 @@ IsFoundOrMemory (Found plan) = Unit {0}
 IsFoundOrMemory Memory = Unit {0}
 IsFoundOrMemory _ = ⊥
 
--- why a search runs out of turns at so many moves: more different states than turns are that near, or the
--- moves are one more than a plan
--- may have, and a path of more than 3000 different states begins at the start
+-- why a search runs out of turns at so many moves: more different states than there are turns lie within
+-- them, or they are one more than a plan may have and a path of more than 3000 different states begins at the
+-- start
 abbrev pub IsTurnsCause : Task → Tree → ℕ → Type 0
-IsTurnsCause task carton moves = AreManyWithin (ClearStep task carton) task.start task.turns moves
+IsTurnsCause task carton moves =
+    AreManyWithin (ClearStep task carton) (estimate_of task) task.start task.target task.turns moves
     ⊎ ((moves ≡ 4096) × HasFarPath (ClearStep task carton) task.start)
 
 -- what a found plan is: it keeps its rules where the task's creases keep theirs
@@ -68,6 +70,7 @@ pub record IsEnd (task : Task) (carton : Tree) (end : SearchEnd) : Type 0 where
   pub clear : IfFound end (λ plan. AreApart carton (pos 0) task.start)
   pub least : IfFound end (λ plan. IsShortest task carton plan.states)
   pub still : IfFound end (λ plan. task.start ≡ task.target → length plan.states ≡ 1)
+  pub turns : IfFound end (λ plan. moves_of plan.states ≤ task.turns)
   pub blocked : IfStartBlocked end (λ a b. AreBlockedAt task carton task.start a.0 b.0)
   pub none : IfNoPath end ((p : List State) → IsSlackPath task carton p → ⊥)
   pub begun : IfNoPath end (AreApart carton (pos 0) task.start)

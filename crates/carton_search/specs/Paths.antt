@@ -1,5 +1,5 @@
 -- Paths of states, and when a path is within the budget of turns.
-use Rattle.std.specs.Prelude.{◌≡◌, ℕ, ◌<◌, ◌≤◌, List, [], ◌∷◌, Some, slice_get, length}
+use Rattle.std.specs.Prelude.{◌≡◌, ℕ, ◌+◌, ◌<◌, ◌≤◌, List, [], ◌∷◌, Some, slice_get, length}
 use Rattle.carton_base.specs.declared.motion.State.{State}
 use Rattle.carton_tree.specs.Trees.{Tree}
 use Rattle.carton_text.specs.declared.task.Task.{Task}
@@ -50,10 +50,16 @@ IsWithinTurns task moves =
     (moves ≤ 4095) × ((xs : List State) → AreDifferent xs → AllReachedBy (IsGridStep task) task.start moves xs
     → length xs ≤ task.turns)
 
--- more different states than there are turns are reached by so many clear steps
-abbrev pub AreManyWithin : (State → State → Type 0) → State → ℕ → ℕ → Type 0
-AreManyWithin C start turns moves = (xs : List State) × (turns < length xs) × AreDifferent xs
-    × AllReachedBy C start moves xs
+-- a state lies within so many moves: it isn't the target, and a path of clear steps leads to it whose moves,
+-- with those that the estimate says are still to come, are at most so many
+abbrev pub LiesWithin : (State → State → Type 0) → (State → ℕ) → State → State → ℕ → State → Type 0
+LiesWithin C h start target most s = (s ≡ target → ⊥)
+    × ((p : List State) × IsPath C start s p × (moves_of p + h s ≤ most))
+
+-- more different states than there are turns lie within so many moves
+abbrev pub AreManyWithin : (State → State → Type 0) → (State → ℕ) → State → State → ℕ → ℕ → Type 0
+AreManyWithin C h start target turns most = (xs : List State) × (turns < length xs) × AreDifferent xs
+    × ((i : ℕ) (s : State) → slice_get xs i ≡ Some s → LiesWithin C h start target most s)
 
 -- a path of more than 3000 different states begins at the start
 abbrev pub HasFarPath : (State → State → Type 0) → State → Type 0

@@ -58,6 +58,8 @@ pub record Trying (task : Task) (carton : Tree) (k : Knowledge) (number : ℕ) (
   pub picks : length (picked k.entries) ≡ count
   pub long : length k.entries + steps_of task ≤ 1 + steps_of task * count + tries
   pub turns : count ≤ task.turns
+  pub near : (i : ℕ) (e : Entry) → slice_get k.entries i ≡ Some e → e.moves ≤ count
+  pub before : entry.moves + 1 ≤ count
 
 -- the same of a turn
 abbrev pub AreTried : Task → Tree → Knowledge → Turn → ℕ → Type 0
@@ -72,6 +74,7 @@ pub record Going (task : Task) (carton : Tree) (k : Knowledge) (turns last : ℕ
   pub picks : length (picked k.entries) ≡ turns
   pub long : length k.entries ≤ 1 + steps_of task * turns
   pub few : turns ≤ task.turns
+  pub near : (i : ℕ) (e : Entry) → slice_get k.entries i ≡ Some e → e.moves ≤ turns
 
 -- no path that is clear by the slack has fewer moves
 abbrev pub AreLeast : Task → Tree → ℕ → Type 0
@@ -85,6 +88,7 @@ pub record IsArrival (task : Task) (carton : Tree) (k : Knowledge) (number : ℕ
   pub there : slice_get k.entries number ≡ Some entry
   pub target : entry.state ≡ task.target
   pub few : entry.moves ≤ 4095
+  pub near : entry.moves ≤ task.turns
   pub least : AreLeast task carton entry.moves
 
 -- what an outcome says

@@ -102,6 +102,7 @@ pub fn search<J: Judge>(alloc: Global, task: &Task, judge: &mut J) -> SearchEnd
     ensures found_start { IfFound result (λ plan. AreApart (J.carton judge.old) (pos 0) task.now.start) }
     ensures found_least { IfFound result (λ plan. IsShortest task.now (J.carton judge.old) plan.states) }
     ensures found_still { IfFound result (λ plan. task.now.start ≡ task.now.target → length plan.states ≡ 1) }
+    ensures found_turns { IfFound result (λ plan. moves_of plan.states ≤ task.now.turns) }
     ensures start_blocked { IfStartBlocked result
         (λ a b. AreBlockedAt task.now (J.carton judge.old) task.now.start a.0 b.0) }
     ensures no_path { IfNoPath result ((p : List State) → IsSlackPath task.now (J.carton judge.old) p → ⊥) }

@@ -12,5 +12,5 @@ mod turns;
 
 pub use carton_steps::{estimate, next_state};
 pub use finding::search;
-pub use laws::budget_law;
+pub use laws::{budget_law, limits_in_numbers};
 pub use search_end::SearchEnd;

@@ -1,9 +1,4 @@
-pub mod Lists
-pub mod Stops
 pub mod Members
-pub mod Writing
+pub mod Stops
 pub mod Moves
-pub mod Numbered
-pub mod Quotients
 pub mod Falling
-pub mod Bounds

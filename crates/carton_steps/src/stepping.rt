@@ -21,6 +21,18 @@ fn toward(stride: u8, goal: i8, stop: i8) -> i8
     stop + (goal - stop).clamp(-most, most)
 }
 
+// The stop of the joint at a place after one step towards its goal.
+fn stop_toward(stride: u8, goal: &State, at: &State, place: u8) -> i8
+    requires stride { stride ≤ WIDEST_STEP }
+    requires place { place < MOST_JOINTS }
+    requires goal { IsStop 16 (stop_of goal.now place) }
+    requires at { IsStop 16 (stop_of at.now place) }
+    ensures { result ≡ toward_in stride (stop_of goal.now place) (stop_of at.now place) }
+{
+    let k = usize::from(place);
+    toward(stride, goal.stops[k], at.stops[k])
+}
+
 // Whether the joint isn't at its goal.
 fn is_away(goal: &State, at: &State, place: u8) -> bool
     requires { place < MOST_JOINTS }
@@ -48,8 +60,7 @@ fn moved(stride: u8, members: &[u8], goal: &State, at: &State) -> State
 {
     let mut stops = at.stops;
     for place in members {
-        let k = usize::from(*place);
-        stops[k] = toward(stride, goal.stops[k], at.stops[k]);
+        stops[usize::from(*place)] = stop_toward(stride, goal, at, *place);
     }
     State {
         stops,

@@ -15,20 +15,20 @@ use Rattle.carton_place.specs.States.{fold_in}
 use Rattle.carton_place.proofs.Still.{first_folds}
 use Rattle.carton_tree.specs.Trees.{Tree}
 use Rattle.carton_text.specs.declared.plan.Plan.{Plan}
+use Rattle.carton_text.specs.PlanMoves.{IsMove, folds_between}
+use Rattle.carton_text.proofs.PlanMoves.{of_move}
 use Rattle.carton_reach.specs.Reaches.{Within}
 use Rattle.carton_part.specs.Beginnings.{IsBeginning}
 use Rattle.carton_part.proofs.Alike.{alike_self, not_beyond}
 use Rattle.carton_part.proofs.Finer.{still}
-use Rattle.carton_check.specs.Sound.{IsMove, folds_between}
-use Rattle.carton_check.proofs.Moves.{of_move}
 use Rattle.carton_bodies.specs.Bodies.{IsInBody}
 use Rattle.carton_bodies.specs.Boxes.{faces}
-use Rattle.carton_stroke.specs.declared.moving.Moving.{Moving}
+use Rattle.carton_bodies.specs.declared.moving.Moving.{Moving}
 use Rattle.carton_stroke.specs.declared.note.BodyNote.{BodyNote}
 use Rattle.carton_stroke.specs.declared.note.BodyNote.TheVariants.{Clears, Touches}
 use Rattle.carton_stroke.specs.declared.passing.Touch.{Touch}
 use Rattle.carton_stroke.specs.Clear.{IsApartFrom, AreApartFrom, IsClearAt}
-use Rattle.carton_stroke.specs.Extents.{holds}
+use Rattle.carton_bodies.specs.Extents.{holds}
 use Rattle.carton_stroke.specs.Notes.{IsNoteOf, IsTouchingAt, SlackClearIsTold}
 use Rattle.carton_stroke.specs.Steps.{IsNoteAlone, IsNoteBefore, IsPartedAt, IsTouch, KeepsApart}
 use Rattle.carton_stroke.specs.Steps.{KeepsApartIn}

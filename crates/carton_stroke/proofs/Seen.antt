@@ -19,6 +19,7 @@ use Rattle.carton_reach.specs.Reaches.{Within, IsReach, half}
 use Rattle.carton_reach.specs.Spots.{corners_in, shape_at, spots_in}
 use Rattle.carton_reach.proofs.Directions.{listed, axis_is}
 use Rattle.carton_reach.proofs.Numbers.{far_apart, not_far, far_back, not_far_back, not_less, turned}
+use Rattle.carton_reach.proofs.Parted.{close_at_last}
 use Rattle.carton_reach.proofs.Positions.{spots_positive}
 use Rattle.carton_panels.specs.Shapes.{IsShape}
 use Rattle.carton_part.specs.Looks.{IsReachIn}
@@ -27,9 +28,10 @@ use Rattle.carton_part.specs.Points.{IsPointOf}
 use Rattle.carton_part.proofs.Corners.{of_corners, corner_is}
 use Rattle.carton_part.proofs.Means.{first_mean}
 use Rattle.carton_part.proofs.Walks.{first_in, power_some}
-use Rattle.carton_stroke.specs.declared.extent.Extent.{Extent}
-use Rattle.carton_stroke.specs.declared.moving.Moving.{Moving}
-use Rattle.carton_stroke.specs.Extents.{holds, IsExtent, AreExtents, IsApart, IsNear, SomeApart, AllNear}
+use Rattle.carton_bodies.specs.declared.extent.Extent.{Extent}
+use Rattle.carton_bodies.specs.declared.moving.Moving.{Moving}
+use Rattle.carton_bodies.specs.Extents.{holds, IsExtent, AreExtents}
+use Rattle.carton_stroke.specs.Nearness.{IsApart, IsNear, SomeApart, AllNear}
 use Rattle.carton_stroke.specs.Steps.{IsKnownApart, IsPartedAt}
 
 half_some : pos 0 <ℤ half
@@ -111,8 +113,8 @@ apart_from t motion panel index depth b r es hr he some n d m c =
         x.t,
         x.forward,
         λ p q hp hq. from_corners t motion panel n d (pos 0) x.u x.v x.t q
-            hr.shape m (λ k lt. beyond t motion panel index depth b v _ _ reach extent far n d m c k q lt hq) p
-            hp,
+            hr.shape m (λ k lt. beyond t motion panel index depth b v _ _ reach extent far n d m c k q lt hq)
+            p hp,
       )
       | inr far ↦ (
         neg_ℤ x.u,
@@ -244,10 +246,10 @@ has_halves t motion panel index depth b r es room hr he shallow wide apart near 
   | inr le ↦
       let k : depth ≡ 36 = omega (arith, le, shallow) in
       absurd (near (λ a d f lt.
-      let x = hr.reaches a d lt in
+      let x = close_at_last k (hr.reaches a d lt) in
       let y = he a f lt in
-      close (get_or r.axes a d) (get_or es a f) room wide (x.close_lows k) (x.close_highs k) (y.close_lows k)
-      (y.close_highs k) (λ h. apart (a, d, f, lt, h))))
+      close (get_or r.axes a d) (get_or es a f) room wide x.0 x.1 (y.close_lows k) (y.close_highs k)
+      (λ h. apart (a, d, f, lt, h))))
 ]
 
 -- a reach is told of each axis: no bounds of all corners go from 1 to 0

@@ -8,9 +8,9 @@ use Rattle.carton_model.specs.Parting.{Position}
 use Rattle.carton_place.specs.States.{fold_in}
 use Rattle.carton_tree.specs.Trees.{Tree}
 use Rattle.carton_text.specs.declared.plan.Plan.{Plan}
+use Rattle.carton_text.specs.PlanMoves.{IsFirst, IsMove, folds_between}
 use Rattle.carton_reach.specs.Beyond.{IsBeyond}
 use Rattle.carton_part.specs.Points.{IsPointOf}
-use Rattle.carton_check.specs.Sound.{IsFirst, IsMove, folds_between}
 use Rattle.carton_bodies.specs.Bodies.{Side, IsInBody}
 
 -- P of the folds, the move and the moment n / d, at every moment of every move; a plan of one state has the

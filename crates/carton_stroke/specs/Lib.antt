@@ -1,5 +1,4 @@
 pub mod Clear
 pub mod Notes
-pub mod Spans
-pub mod Extents
+pub mod Nearness
 pub mod Steps

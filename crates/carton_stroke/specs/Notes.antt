@@ -7,9 +7,9 @@ use Rattle.carton_model.specs.Parting.{Position}
 use Rattle.carton_place.specs.States.{fold_in}
 use Rattle.carton_tree.specs.Trees.{Tree}
 use Rattle.carton_text.specs.declared.plan.Plan.{Plan}
+use Rattle.carton_text.specs.PlanMoves.{IsFirst, IsMove, folds_between}
 use Rattle.carton_part.specs.Answers.{IsHalvedMoment}
 use Rattle.carton_part.specs.Beginnings.{IsBeginning}
-use Rattle.carton_check.specs.Sound.{IsFirst, IsMove, folds_between}
 use Rattle.carton_bodies.specs.Bodies.{IsInBody}
 use Rattle.carton_bodies.specs.Boxes.{faces}
 use Rattle.carton_stroke.specs.declared.note.BodyNote.{BodyNote}

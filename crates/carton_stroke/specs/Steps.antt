@@ -13,16 +13,17 @@ use Rattle.carton_tree.specs.Trees.{Tree}
 use Rattle.carton_part.specs.Answers.{IsHalvedMoment}
 use Rattle.carton_part.specs.Looks.{IsReachIn}
 use Rattle.carton_part.specs.Parted.{AtEachMoment}
-use Rattle.carton_check.specs.Sound.{IsMove, folds_between}
+use Rattle.carton_text.specs.PlanMoves.{IsMove, folds_between}
 use Rattle.carton_bodies.specs.Bodies.{IsInBody}
 use Rattle.carton_bodies.specs.Boxes.{faces}
-use Rattle.carton_stroke.specs.declared.extent.Extent.{Extent}
-use Rattle.carton_stroke.specs.declared.moving.Moving.{Moving}
+use Rattle.carton_bodies.specs.declared.extent.Extent.{Extent}
+use Rattle.carton_bodies.specs.declared.moving.Moving.{Moving}
 use Rattle.carton_stroke.specs.declared.note.BodyNote.{BodyNote}
 use Rattle.carton_stroke.specs.declared.note.BodyNote.TheVariants.{Clears, Touches}
 use Rattle.carton_stroke.specs.declared.passing.Touch.{Touch}
 use Rattle.carton_stroke.specs.Clear.{IsApartFrom, AreApartFrom}
-use Rattle.carton_stroke.specs.Extents.{holds, SomeApart}
+use Rattle.carton_bodies.specs.Extents.{holds}
+use Rattle.carton_stroke.specs.Nearness.{SomeApart}
 use Rattle.carton_stroke.specs.Notes.{IsTouchingAt}
 
 -- at this moment of its move the panel is parted from the body by more than so many halves

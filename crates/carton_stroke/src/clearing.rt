@@ -3,22 +3,20 @@ ghost use Rattle.carton_base.specs.declared.bodies.Cuboid.{Cuboid};
 ghost use Rattle.carton_base.specs.declared.limits.TheConstants.{MOST_JOINTS, MOST_STATES, WIDEST_SLACK};
 ghost use Rattle.carton_base.specs.declared.motion.State.{State};
 ghost use Rattle.carton_bodies.specs.Boxes.{IsBox, faces};
-ghost use Rattle.carton_bodies.specs.Plans.{IsPlanOf};
-ghost use Rattle.carton_check.specs.Sound.{IsMove};
-ghost use Rattle.carton_check.specs.Steps.{AreMoves};
+ghost use Rattle.carton_text.specs.PlanMoves.{IsMove, AreMoves};
+ghost use Rattle.carton_text.specs.TaskPlans.{IsPlanOf};
 ghost use Rattle.carton_model.specs.Moves.{IsMotion};
 ghost use Rattle.carton_stroke.specs.Clear.{IsSlackClearOf};
 ghost use Rattle.carton_stroke.specs.Notes.{AreNotesOf, IsNoteOf};
 ghost use Rattle.carton_stroke.specs.Steps.{AreKnown, AreNotesBefore, IsNoteBefore};
 
-use crate::moving::Moving;
 use crate::note::BodyNote;
 use crate::passing::{Touch, first_touch};
 use crate::resting::note_state;
 use crate::world::{Placements, known_over};
 use carton_base::{Cuboid, Motion, State};
-use carton_check::move_at;
-use carton_text::Plan;
+use carton_bodies::Moving;
+use carton_text::{Plan, move_at};
 use carton_tree::Carton;
 
 // What is told of the box after its move, by what was told before.

@@ -3,14 +3,11 @@
 #![tactic(auto)]
 
 mod clearing;
-mod extent;
 mod laws;
-mod moving;
 mod nearness;
 mod note;
 mod passing;
 mod resting;
-mod span;
 mod world;
 
 pub use clearing::{bodies_clear, body_clears};

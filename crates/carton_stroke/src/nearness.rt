@@ -4,13 +4,12 @@ ghost use Rattle.carton_base.specs.declared.limits.TheConstants.{MOST_JOINTS, MO
 ghost use Rattle.carton_bodies.specs.Boxes.{IsBox};
 ghost use Rattle.carton_model.specs.Moves.{IsMotion};
 ghost use Rattle.carton_reach.specs.Reaches.{half};
-ghost use Rattle.carton_stroke.specs.Extents.{AllNear, IsApart, IsNear, SomeApart};
+ghost use Rattle.carton_stroke.specs.Nearness.{AllNear, IsApart, IsNear, SomeApart};
 ghost use Rattle.carton_stroke.specs.Steps.{IsPartedAt, IsUnpartedAt};
 
-use crate::extent::{Extent, Extents, extents_over};
-use crate::moving::Moving;
 use crate::world::reaches_in_world;
 use carton_base::{Motion, PanelId, Piece, UNIT};
+use carton_bodies::{Extent, Extents, Moving, extents_over};
 use carton_part::{Look, Sight};
 use carton_reach::{Reach, Reaches};
 use carton_tree::Carton;
@@ -57,7 +56,8 @@ fn is_near(panel: Reach, body: Extent, room: i128) -> bool
 /// Whether along some axis the body lies beyond the panel, or the panel beyond the body, at every
 /// moment of the piece.
 pub fn are_apart(panel: &Reaches, body: &Extents) -> bool
-    requires { 13 ≤ length panel.now.axes }
+    requires panel { 13 ≤ length panel.now.axes }
+    requires body { 13 ≤ length body.now.axes }
     ensures { IsTrue result ↔ SomeApart panel.now.axes body.now.axes }
 {
     for a in 0..13 {
@@ -71,7 +71,8 @@ pub fn are_apart(panel: &Reaches, body: &Extents) -> bool
 // Whether along no axis, either way, one lies beyond the other by more than the slack at any moment
 // of the piece.
 fn are_near(panel: &Reaches, body: &Extents, slack: u16) -> bool
-    requires { 13 ≤ length panel.now.axes }
+    requires panel { 13 ≤ length panel.now.axes }
+    requires body { 13 ≤ length body.now.axes }
     ensures { IsTrue result ↔ AllNear ((pos 2 *ℤ pos slack) *ℤ half) panel.now.axes body.now.axes }
 {
     let room = room_of(slack);

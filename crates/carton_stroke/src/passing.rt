@@ -7,11 +7,10 @@ ghost use Rattle.carton_part.specs.Parted.{AtEachMoment};
 ghost use Rattle.carton_stroke.specs.Steps.{AreKnown, IsKnownApart, IsPartedAt, IsTouch, IsUnpartedAt};
 ghost use Rattle.carton_stroke.specs.Steps.{KeepsApart};
 
-use crate::extent::{Extents, extents_over};
-use crate::moving::Moving;
 use crate::nearness::{Encounter, are_apart};
 use crate::world::Placements;
 use carton_base::{Moment, Motion, PanelId, Piece};
+use carton_bodies::{Extents, Moving, extents_over};
 use carton_part::walk;
 use carton_reach::Reaches;
 use carton_tree::Carton;
@@ -53,7 +52,8 @@ fn touch_over(
 
 // Whether the panel's reach is known, and the body's extents are apart from it.
 fn are_known_apart(reaches: &Option<Reaches>, extents: &Extents) -> bool
-    requires { IfSome reaches.now (λ r. 13 ≤ length r.axes) }
+    requires reaches { IfSome reaches.now (λ r. 13 ≤ length r.axes) }
+    requires extents { 13 ≤ length extents.now.axes }
     ensures { IsTrue result → IsKnownApart reaches.now extents.now.axes }
 {
     match reaches {

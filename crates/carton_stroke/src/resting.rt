@@ -4,10 +4,10 @@ ghost use Rattle.carton_bodies.specs.Boxes.{IsBox};
 ghost use Rattle.carton_model.specs.Moves.{IsState};
 ghost use Rattle.carton_stroke.specs.Steps.{AreNotesAlone, IsNoteAlone};
 
-use crate::moving::Moving;
 use crate::nearness::Encounter;
 use crate::note::BodyNote;
 use carton_base::{Cuboid, MOST_HALVINGS, Moment, Motion, PanelId, Piece, State};
+use carton_bodies::Moving;
 use carton_part::{Look, Sight};
 use carton_tree::Carton;
 

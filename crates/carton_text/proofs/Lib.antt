@@ -9,7 +9,9 @@ pub mod KeptTasks
 pub mod Pieces
 pub mod Thousandths
 pub mod Still
+pub mod PlanMoves
 pub mod PlanStops
+pub mod OneTeam
 pub mod Rising
 pub mod PlanEntries
 pub mod PlansRead
@@ -18,3 +20,5 @@ pub mod OneSpelling
 pub mod OneTask
 pub mod PlanCreases
 pub mod Compared
+pub mod JobsSpelled
+pub mod JobsReadBack

@@ -22,7 +22,7 @@ use Rattle.carton_text.specs.TaskRules.{all_places, AreTeamsOf}
 use Rattle.carton_text.proofs.Apart.{Apart, apart_from_pairs, pairs_from_apart, all_joined, apart_joined}
 use Rattle.carton_text.proofs.Apart.{all_of, found, found_apart}
 
-same_edge : (d e : EdgeId) → is_same d e ≡ true → d ≡ e
+pub same_edge : (d e : EdgeId) → is_same d e ≡ true → d ≡ e
 same_edge d e h =
     let make : ℕ → EdgeId = λ n. record { 0 = n } in
     ap make (eqb-true d.0 e.0 h)
@@ -166,6 +166,19 @@ all_among (e ∷ es) all within = (
     either true b h = refl
     either false b h = h
 
+-- the places of all teams: those of the named edges, and after them those of single joints
+pub joined_places : (lines : List TeamLine) (courses : List Course) (teams : List Team)
+    → teams_of lines courses ≡ Ok teams → all_places teams
+    ≡ filter_map (place_from 0 courses) (members lines) ++ all_places (lone_teams (members lines) 0 courses)
+unfolding teams_of
+joined_places lines courses teams h =
+    let t = both (entries_from (λ i. team_of courses) 0 lines) _ teams h in
+    let lones = lone_teams (members lines) 0 courses in
+    let all = t.0 ++ lones in
+    let few = unless (ltb MOST_TEAMS (length all)) (TooManyTeams (length all)) all teams t.2 in
+    ap all_places few.1 ∙ flat_map-append (λ (m : Team). m.places) t.0 lones
+    ∙ ap (λ (ns : List ℕ). ns ++ all_places lones) (told_places courses 0 lines t.0 t.1)
+
 -- the teams that a job gives have no place twice
 pub placed_teams : (lines : List TeamLine) (courses : List Course) (teams : List Team)
     → AllPairs ◌≢◌ (members lines) → teams_of lines courses ≡ Ok teams → AreTeamsOf (length courses) teams
@@ -178,9 +191,7 @@ placed_teams lines courses teams pairs h =
     let lones = lone (members lines) 0 courses in
     let ks = all_places (lone_teams (members lines) 0 courses) in
     let named = all_among (members lines) (members lines) (λ e h. h) in
-    let joined : all_places teams ≡ filter_map f (members lines) ++ ks = ap all_places few.1
-    ∙ flat_map-append (λ (m : Team). m.places) t.0 (lone_teams (members lines) 0 courses)
-    ∙ ap (λ (ns : List ℕ). ns ++ ks) (told_places courses 0 lines t.0 t.1) in
+    let joined = joined_places lines courses teams h in
     let within = all_joined (λ k. k < length courses) (filter_map f (members lines)) ks
     (found (λ e. is_among e (members lines) ≡ true) (λ k. k < length courses) f (members lines)
     (λ e k among q. let r = placed 0 courses e k q in omega (arith, r.upto)) named)

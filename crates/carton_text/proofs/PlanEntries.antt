@@ -39,7 +39,7 @@ edge_is (pos n) e h =
     (ap pos same, omega (arith, same, upto))
 edge_is (negsuc n) e h = cc
 
-edge_told : (e : EdgeId) → IsEdgeNumber e → edge_in (pos e.0) ≡ Ok e
+pub edge_told : (e : EdgeId) → IsEdgeNumber e → edge_in (pos e.0) ≡ Ok e
 edge_told e h =
     let low : leb 0 e.0 ≡ true = le-leb 0 e.0 (omega arith) in
     let high : leb e.0 LAST_EDGE ≡ true = le-leb e.0 LAST_EDGE (omega (arith, h)) in
@@ -62,13 +62,13 @@ edges_are i (z ∷ zs) es h =
       subst (AllByRecursion IsEdgeNumber) more (first.1, rest.1),
     )
 
-edges_told : (i : ℕ) (es : List EdgeId) → AllByRecursion IsEdgeNumber es
+pub edges_told : (i : ℕ) (es : List EdgeId) → AllByRecursion IsEdgeNumber es
     → entries_from (λ i. edge_in) i (numbers_of es) ≡ Ok es
 unfolding entries_from
 edges_told i [] h = refl
 edges_told i (e ∷ es) h = rw (edge_told e h.0, edges_told (i + 1) es h.1) refl
 
-small_edges : (es : List EdgeId) → AllByRecursion IsEdgeNumber es → AreSmall (numbers_of es)
+pub small_edges : (es : List EdgeId) → AllByRecursion IsEdgeNumber es → AreSmall (numbers_of es)
 small_edges [] h = tt
 small_edges (e ∷ es) h = (omega (arith, h.0), small_edges es h.1)
 
@@ -128,7 +128,7 @@ stops_are most i (z ∷ zs) stops h =
       subst (AllByRecursion (λ z. unsigned_abs z ≤ most)) more (near, rest.1),
     )
 
-stops_near : (most i : ℕ) (zs : List ℤ) → AllByRecursion (λ z. unsigned_abs z ≤ most) zs
+pub stops_near : (most i : ℕ) (zs : List ℤ) → AllByRecursion (λ z. unsigned_abs z ≤ most) zs
     → entries_from (λ i. at_most most) i zs ≡ Ok zs
 unfolding entries_from
 stops_near most i [] h = refl
@@ -136,7 +136,7 @@ stops_near most i (z ∷ zs) h =
     let test : leb (unsigned_abs z) most ≡ true = le-leb _ _ h.0 in
     rw (test, stops_near most (i + 1) zs h.1) refl
 
-few_stops : (grid : Grid) → 2 * stops_of grid ≤ 32
+pub few_stops : (grid : Grid) → 2 * stops_of grid ≤ 32
 few_stops Eight = omega arith
 few_stops Sixteen = omega arith
 

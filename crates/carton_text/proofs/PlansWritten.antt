@@ -89,7 +89,7 @@ states_told grid creases told (s ∷ ss) n on few =
 
 state_inner : (grid : Grid) (joints : ℕ) (s : State) → IsOn grid joints s → IsInner (words joints s)
 state_inner grid joints s on = (
-  line_lacks (codes "state") (joint_stops joints s) (lacks 10 (codes "state") refl)
+  line_lacks 10 (omega arith) (codes "state") (joint_stops joints s) (lacks 10 (codes "state") refl)
       (row_small grid joints (joint_stops joints s) (row grid joints s on)),
   refl,
 )
@@ -99,7 +99,7 @@ crease_words creases = codes "creases" ++ flat_map spaced (numbers_of creases)
 
 creases_inner : (creases : List EdgeId) → AreCreases creases → IsInner (crease_words creases)
 creases_inner creases are = (
-  line_lacks (codes "creases") (numbers_of creases) (lacks 10 (codes "creases") refl)
+  line_lacks 10 (omega arith) (codes "creases") (numbers_of creases) (lacks 10 (codes "creases") refl)
       (creases_small creases are),
   refl,
 )

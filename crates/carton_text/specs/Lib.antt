@@ -5,7 +5,11 @@ pub mod JobRules
 pub mod Tasks
 pub mod TaskRules
 pub mod CartonTasks
+pub mod OneTeam
 pub mod Poses
 pub mod PlainPlans
 pub mod PlanRules
+pub mod PlanMoves
+pub mod TaskPlans
 pub mod Plans
+pub mod JobSpelling

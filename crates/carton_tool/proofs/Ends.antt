@@ -48,6 +48,13 @@ is_done (Told ToldDone) is = refl
 is_done (Told ToldRefused) is = absurd (cc)
 is_done (Told ToldTurns) is = absurd (cc)
 
+pub is_refused : (e : Ended) → status_of e ≡ Refused → e ≡ Told ToldRefused
+is_refused BadWords is = absurd (cc)
+is_refused BadInput is = absurd (cc)
+is_refused (Told ToldDone) is = absurd (cc)
+is_refused (Told ToldRefused) is = refl
+is_refused (Told ToldTurns) is = absurd (cc)
+
 -- a status that is done but for a fault of writing
 pub done_or_fault : (status : Status) → (status ≢ WriteFault → status ≡ Done) → IsToldOrFault status
 done_or_fault Done h = inl refl

@@ -42,35 +42,36 @@ three_files holds dieline job plan d j p (a ∷ b ∷ c ∷ []) e f g told =
     let third : c ≡ p = subst (λ o. IfSome o (λ bytes. c ≡ bytes)) g told.1.1.0 in
     λ i. first i ∷ second i ∷ third i ∷ []
 
--- a command that tells done only where P holds of the bytes of its files and of the text
-abbrev pub IsOnly : Command → (List (List ℕ) → List ℕ → Type 0) → Type 0
-IsOnly c P = (files : List (List ℕ)) (told : ToldText) → tells c files (Ok told) → told.ending ≡ ToldDone
-    → P files told.text
+-- a command that ends so only where P holds of the bytes of its files and of the text
+abbrev pub IsOnly : Ending → Command → (List (List ℕ) → List ℕ → Type 0) → Type 0
+IsOnly ending c P = (files : List (List ℕ)) (told : ToldText) → tells c files (Ok told)
+    → told.ending ≡ ending → P files told.text
 
 same_ending : (a b : Ending) → Told a ≡ Told b → a ≡ b
 same_ending a b e = cc
 
-done_outcome : (c : Command) (files : List (List ℕ)) (said : Said) (outcome : Result ToldText BadFile)
-    (P : List (List ℕ) → List ℕ → Type 0) → IsOnly c P → tells c files outcome → said ≡ says outcome
-    → said.ended ≡ Told ToldDone → P files said.text
-done_outcome c files said (Ok told) P only t is done =
+ended_outcome : (ending : Ending) (c : Command) (files : List (List ℕ)) (said : Said)
+    (outcome : Result ToldText BadFile) (P : List (List ℕ) → List ℕ → Type 0) → IsOnly ending c P
+    → tells c files outcome → said ≡ says outcome → said.ended ≡ Told ending → P files said.text
+ended_outcome ending c files said (Ok told) P only t is so =
     let ended = ap (λ (s : Said). s.ended) is in
     subst (P files) (sym (ap (λ (s : Said). s.text) is))
-    (only files told t (same_ending told.ending ToldDone (sym ended ∙ done)))
-done_outcome c files said (Err file) P only t is done =
+    (only files told t (same_ending told.ending ending (sym ended ∙ so)))
+ended_outcome ending c files said (Err file) P only t is so =
     let ended = ap (λ (s : Said). s.ended) is in absurd (cc)
 
--- so it holds where done is said to the command
-pub done_saying : (c : Command) (files : List (List ℕ)) (said : Said) (P : List (List ℕ) → List ℕ → Type 0)
-    → IsOnly c P → IsSaidTo c files said → said.ended ≡ Told ToldDone → P files said.text
-done_saying c files said P only h done = by_length (first_long (files_of c) files) h.1
+-- so it holds where that ending is said to the command
+pub ended_saying : (ending : Ending) (c : Command) (files : List (List ℕ)) (said : Said)
+    (P : List (List ℕ) → List ℕ → Type 0) → IsOnly ending c P → IsSaidTo c files said
+    → said.ended ≡ Told ending → P files said.text
+ended_saying ending c files said P only h so = by_length (first_long (files_of c) files) h.1
   where
     by_length : (first : Option FileKind)
         → MatchOption first (IsSaidOf c files said)
         (λ kind. said ≡ says (Err (record { kind = kind; rule = TooLong })))
         → P files said.text
     by_length (Some kind) is = let ended = ap (λ (s : Said). s.ended) is in absurd (cc)
-    by_length None is = done_outcome c files said is.0 P only is.1 is.2 done
+    by_length None is = ended_outcome ending c files said is.0 P only is.1 is.2 so
 
 -- a command of which done is told only where the plan is sound
 abbrev IsOnlySound : Command → Type 0
@@ -86,8 +87,8 @@ sound_command holds had words files said c dieline job plan d j p are is done on
     subst AreSound
     (three_files holds dieline job plan d j p files e f g
     (subst (λ ns. AreTold holds ns files) names (are.told c command)))
-    (done_saying c files said (λ bytes text. AreSound bytes) only (own_saying words files c said command is)
-    (is_done said.ended done))
+    (ended_saying ToldDone c files said (λ bytes text. AreSound bytes) only
+    (own_saying words files c said command is) (is_done said.ended done))
 
 -- where done is told, the bytes of the files are those of a sound plan
 pub sound_where_done : (holds : List ℕ → Option (List ℕ)) (had : ℕ) (words files : List (List ℕ))

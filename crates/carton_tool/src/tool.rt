@@ -4,7 +4,7 @@ ghost use Rattle.carton_io.specs.Told.{raised, Rose, GrewInPart};
 ghost use Rattle.carton_words.specs.Asked.{asked};
 ghost use Rattle.carton_words.specs.Commands.{Command, IsCommand, IsNoCommand};
 ghost use Rattle.carton_words.specs.Words.{texts};
-ghost use Rattle.carton_tool.specs.Fixtures.{TellsMadeFixture, TellsGoodFixture};
+ghost use Rattle.carton_tool.specs.Fixtures.{TellsMadeFixture, TellsGoodFixture, TellsWhyNotMade, TellsFault};
 ghost use Rattle.carton_tool.specs.Headline.{IsSafe, HasFewestMoves, TellsPlanWith, IsFoundInReach};
 ghost use Rattle.carton_tool.specs.Headline.{IsOfSound, TellsMade};
 ghost use Rattle.carton_tool.specs.Saying.{status_of, IsSaidOf, IsSaid, AreFiles, IsAnswered, IsDetermined};
@@ -141,6 +141,16 @@ pub fn run<S: Shelf, K: Sink>(
     ensures verified_good { result ≡ Status.Done
         → TellsGoodFixture (S.holds shelf.old) (texts words.now) (Appends (K.written sink.old)
         (K.written sink.new)) }
+
+    // A refused fixture is told with what hinders it, and one that isn't good with its fault.
+    ensures refused_cause { result ≡ Status.Refused
+        → TellsWhyNotMade (S.holds shelf.old) (texts words.now) (Appends (K.written sink.old)
+        (K.written sink.new)) }
+    ensures fault_cause { result ≡ Status.Refused
+        → TellsFault (S.holds shelf.old) (texts words.now) (Appends (K.written sink.old)
+        (K.written sink.new)) }
+
+    // Where plan, bodies and probes keep the slack, a fixture is told, and one is told to be good.
 
     // The words and the bytes of the files that they name determine the text and the status.
     ensures determined { IsDetermined (texts words.now) }

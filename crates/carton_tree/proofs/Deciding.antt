@@ -23,13 +23,13 @@ pub apart : (d : RawDieline) (cs : List EdgeId) (hs : List Hinge) (groups : List
     → AreGroups hs MOST_PANELS (length hs) groups → length d.faces ≤ MOST_PANELS → p < length d.faces
     → r < length d.faces → ¬ (group_of groups p ≡ group_of groups r) → IsApart d r p
 apart d cs hs groups p r all are le pl rl off =
-    (pl, λ leads. off ((are p r (omega arith) (omega arith)).1 ((leads_iff d cs hs p r all).0 leads)))
+    (pl, λ leads. off ((are p r (omega arith) (omega arith)).1 ((leads_iff d cs hs all p r).0 leads)))
 
 pub not_apart : (d : RawDieline) (cs : List EdgeId) (hs : List Hinge) (groups : List ℕ) (p r : ℕ)
     → AreAll d cs hs → AreGroups hs MOST_PANELS (length hs) groups → length d.faces ≤ MOST_PANELS
     → r < length d.faces → group_of groups p ≡ group_of groups r → ¬ (IsApart d r p)
 not_apart d cs hs groups p r all are le rl same far =
-    far.1 ((leads_iff d cs hs p r all).1 ((are p r (omega (arith, far.0)) (omega arith)).0 same))
+    far.1 ((leads_iff d cs hs all p r).1 ((are p r (omega (arith, far.0)) (omega arith)).0 same))
 
 pub deep : (d : RawDieline) (cs : List EdgeId) (hs : List Hinge) (spots : List (Option Spot)) (p r : ℕ)
     → AreAll d cs hs → AreSpots hs r LONGEST_PATH spots → length d.faces ≤ MOST_PANELS → p < length d.faces
@@ -37,7 +37,7 @@ pub deep : (d : RawDieline) (cs : List EdgeId) (hs : List Hinge) (spots : List (
 deep d cs hs spots p r all are le pl none = (
   pl,
   λ near.
-      let w = near_to d cs hs p r all near in
+      let w = near_to d cs hs all p r near in
       false≢true (subst IsSome none (are.whole p w.0 (omega arith) w.1 w.2)),
 )
 
@@ -47,7 +47,7 @@ not_deep d cs hs spots p r all are some far = at (spot_at spots p) some (are.kno
   where
     at : (o : Option Spot) → IsSome o → IfSome o (λ s. IsSpot hs spots r p s × (s.depth ≤ LONGEST_PATH)) → ⊥
     at None some h = false≢true some
-    at (Some s) some h = far.1 (near_from d cs hs s.depth p r all h.1 h.0.leads)
+    at (Some s) some h = far.1 (near_from d cs hs all s.depth p r h.1 h.0.leads)
 
 -- where none hangs too deep, all hang
 pub all_hang : (d : RawDieline) (cs : List EdgeId) (hs : List Hinge) (spots : List (Option Spot)) (p r : ℕ)
@@ -58,16 +58,6 @@ all_hang d cs hs spots p r all are le none lt = at (spot_at spots p) refl
     at : (o : Option Spot) → spot_at spots p ≡ o → IsSome o
     at None e = absurd (none p (deep d cs hs spots p r all are le lt e))
     at (Some s) e = refl
-
--- the place of the joint by which a panel hangs is one of the list
-pub hinge_below : (hs : List Hinge) (spots : List (Option Spot)) (p r n : ℕ) → AreSpots hs r n spots
-    → IfSome (spot_at spots p) (λ s. 0 < s.depth → s.hinge < length hs)
-hinge_below hs spots p r n are = at (spot_at spots p) (are.known p)
-  where
-    at : (o : Option Spot) → IfSome o (λ s. IsSpot hs spots r p s × (s.depth ≤ n))
-        → IfSome o (λ s. 0 < s.depth → s.hinge < length hs)
-    at None h = tt
-    at (Some s) h = λ l. (h.0.joins l).0
 
 -- the first bare side, as an answer
 pub bare_answer : (d : RawDieline) (e : TreeError)

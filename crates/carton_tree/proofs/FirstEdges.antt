@@ -5,27 +5,15 @@ use Rattle.std.proofs.Common.{subst, arith}
 use Rattle.std.specs.Prelude.{Any, Contains}
 use Rattle.std.proofs.lemmas.Bool.{cases_lt, cases_order}
 use Rattle.std.proofs.lemmas.List.{get_or_append_left, get_or_push, get_or_default, length_push}
-use Rattle.std.proofs.lemmas.Option.{slice_get-get_or, get_or_from_slice_get}
+use Rattle.std.proofs.lemmas.Option.{slice_get-get_or}
 use Rattle.carton_base.specs.declared.dieline.RawDieline.{RawDieline}
 use Rattle.carton_base.specs.declared.dieline.Ends.{Ends}
 use Rattle.carton_base.specs.declared.ids.EdgeId.{EdgeId}
-use Rattle.carton_base.proofs.Loops.{NoneBelow}
 use Rattle.carton_panels.specs.Around.{Step, around}
 use Rattle.carton_panels.specs.Creases.{HasEnds, IsFirstEdge}
 use Rattle.carton_tree.specs.Joints.{vertices_of, IsSide}
 use Rattle.carton_tree.specs.Rules.{IsBare, IsSooner}
 use Rattle.carton_tree.specs.Steps.{AreFirstSides, AreSides, AreAllSides}
-
--- an edge that is between two vertices where none before it is
-pub first_here : (edges : List Ends) (k p q : ℕ) (x : Ends) → k < length edges → x ≡ get_or edges k x
-    → HasEnds x p q → NoneBelow (λ e. HasEnds e p q) edges k → IsFirstEdge edges k p q
-first_here edges k p q x h is b below = record {
-  within = h;
-  ends = λ e g. subst (λ y. HasEnds y p q) (is ∙ get_or_from_slice_get edges k e x g) b;
-  first =
-      λ j e lt g between. below j e lt (omega arith)
-      (subst (λ y. HasEnds y p q) (sym (get_or_from_slice_get edges j e e g)) between);
-}
 
 -- two vertices have one first edge
 pub first_unique : (edges : List Ends) (j k p q : ℕ) → IsFirstEdge edges j p q → IsFirstEdge edges k p q

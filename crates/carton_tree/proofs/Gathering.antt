@@ -213,20 +213,6 @@ hinge_stays d cs more h is =
       at = is.at;
     }
 
-pub hinges_stay : (d : RawDieline) (k : ℕ) (cs : List EdgeId) (hs : List Hinge) → ¬ (IsJoint d k)
-    → AreHinges d k cs hs → AreHinges d (k + 1) cs hs
-hinges_stay d k cs hs n h = record {
-  ordered = h.ordered;
-  below = λ i e lt. omega (arith, h.below i e lt);
-  each = h.each;
-  whole = λ j lt f. elim (last_or_below j k lt) [
-    | inl e ↦ absurd (n (subst (IsJoint d) e f))
-    | inr l ↦
-        h.whole j l f
-  ];
-  few = h.few;
-}
-
 -- one joint more, which may be a free one
 pub hinges_grow : (d : RawDieline) (k : ℕ) (cs more : List EdgeId) (hs : List Hinge) (x : Hinge)
     → x.edge.0 ≡ k → length more ≤ 1 → IsHinge d (cs ++ more) x → AreHinges d k cs hs

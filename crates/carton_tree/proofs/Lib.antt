@@ -1,3 +1,4 @@
+pub mod Options
 pub mod Chains
 pub mod FirstEdges
 pub mod Merging
@@ -7,7 +8,6 @@ pub mod Ways
 pub mod Tying
 pub mod Climbing
 pub mod Returning
-pub mod Starting
 pub mod Walking
 pub mod Placing
 pub mod Meeting

@@ -1,5 +1,5 @@
 -- Groups of panels, and a joint that makes one of two.
-use Rattle.std.proofs.Common.{◌≡◌, ℕ, zero, suc, ◌+◌, ◌<◌, ◌⊎◌, inl, inr, List, length, get_or, cond, nat_eq}
+use Rattle.std.proofs.Common.{◌≡◌, ℕ, ◌+◌, ◌<◌, ◌⊎◌, inl, inr, List, length, get_or, cond, nat_eq}
 use Rattle.std.proofs.Common.{refl, sym, ◌∙◌, ap, subst, arith}
 use Rattle.std.proofs.lemmas.Bool.{cases_eq, eq-eqb, ne_eqb}
 use Rattle.std.proofs.lemmas.List.{get_or_default}
@@ -32,11 +32,6 @@ pub hinge_only : (hs : List Hinge) (k : ℕ) (h : Hinge) → h ≡ get_or hs k h
 hinge_only hs k h is =
     λ f g j. subst (λ (x : Hinge). ((f ≡ x.first.0) × (g ≡ x.second.0))
     ⊎ ((f ≡ x.second.0) × (g ≡ x.first.0))) (sym is) (j.1 h)
-
--- no joints join no two panels
-pub joined_by_none : (hs : List Hinge) (f g : ℕ) → AreJoined (HingeJoins hs) 0 f g → f ≡ g
-joined_by_none hs f g (zero, e) = e
-joined_by_none hs f g (suc n, c) = absurd (omega (arith, c.2))
 
 -- the group after one was put into another
 abbrev pub moved : ℕ → ℕ → ℕ → ℕ
@@ -114,7 +109,7 @@ not_closed hs n k h groups are is fn sn apart loop =
     ends (inl e) =
         subst (λ x. AreJoined (HingeJoins hs) k x h.second.0) e.0
         (subst (λ y. AreJoined (HingeJoins hs) k loop.0 y) e.1 loop.3)
-    ends (inr e) = joined_back (HingeJoins hs) (hinge_back hs) k h.second.0 h.first.0
+    ends (inr e) = joined_back (HingeJoins hs) k (hinge_back hs) h.second.0 h.first.0
         (subst (λ x. AreJoined (HingeJoins hs) k x h.first.0) e.0
         (subst (λ y. AreJoined (HingeJoins hs) k loop.0 y) e.1 loop.3))
 

@@ -77,10 +77,14 @@ pub record AreBesides (d : RawDieline) (all : List Beside) : Type 0 where
   pub each : (k : ℕ) (b : Beside) → k < length all
       → IsBeside (IsSide d k) (length d.faces) (slice_index_or all k b)
 
+-- two panels are those, one way or the other
+abbrev pub AreThose : ℕ → ℕ → ℕ → ℕ → Type 0
+AreThose p q f g = ((p ≡ f) × (q ≡ g)) ⊎ ((p ≡ g) × (q ≡ f))
+
 -- edge k joins these two panels, and no others
 pub record IsPair (d : RawDieline) (k f g : ℕ) : Type 0 where
   pub joins : IsJointOf d k f g
-  pub only : (p q : ℕ) → IsJointOf d k p q → ((p ≡ f) × (q ≡ g)) ⊎ ((p ≡ g) × (q ≡ f))
+  pub only : (p q : ℕ) → IsJointOf d k p q → AreThose p q f g
 
 -- what is told of the two panels that an edge joins
 abbrev pub IsPairAnswer : RawDieline → ℕ → Option (PanelId × PanelId) → Type 0
@@ -116,9 +120,7 @@ pub record AreHinges (d : RawDieline) (k : ℕ) (creases : List EdgeId) (hinges 
 
 -- the joint at a place of the list joins panel f to panel g
 abbrev pub HingeJoins : List Hinge → ℕ → ℕ → ℕ → Type 0
-HingeJoins hinges i f g =
-    (i < length hinges)
-    × HoldsAt (λ h. ((f ≡ h.first.0) × (g ≡ h.second.0)) ⊎ ((f ≡ h.second.0) × (g ≡ h.first.0))) hinges i
+HingeJoins hinges i f g = (i < length hinges) × HoldsAt (λ h. AreThose f g h.first.0 h.second.0) hinges i
 
 -- joints before place k join the two panels of the joint there
 abbrev pub ClosesLoop : List Hinge → ℕ → Type 0
@@ -158,6 +160,10 @@ pub record IsSpot (hinges : List Hinge) (spots : List (Option Spot)) (root p : �
   pub joins : 0 < s.depth → HingeJoins hinges s.hinge p s.parent.0
   pub parent : 0 < s.depth → IsSomeAnd (spot_at spots s.parent.0) (λ t. suc t.depth ≡ s.depth)
 
+-- where it is known how the panel hangs, it does so, at most r joints below the root
+abbrev pub IsKnown : List Hinge → List (Option Spot) → ℕ → ℕ → ℕ → Option Spot → Type 0
+IsKnown hinges spots root r p o = IfSome o (λ s. IsSpot hinges spots root p s × (s.depth ≤ r))
+
 -- how the child hangs after a joint to a parent was looked at, where the panels that hang r joints below the
 -- root get children
 abbrev pub hung_from : Option Spot → Option Spot → PanelId → ℕ → ℕ → Option Spot
@@ -169,7 +175,7 @@ hung_from None (Some a) parent hinge r =
 -- all panels that hang at most r joints below the root are known, and perhaps some that hang one more
 pub record AreKnown (hinges : List Hinge) (root r : ℕ) (spots : List (Option Spot)) : Type 0 where
   pub count : length spots ≡ MOST_PANELS
-  pub known : (p : ℕ) → IfSome (spot_at spots p) (λ s. IsSpot hinges spots root p s × (s.depth ≤ r + 1))
+  pub known : (p : ℕ) → IsKnown hinges spots root (r + 1) p (spot_at spots p)
   pub whole : (p n : ℕ) → p < MOST_PANELS → n ≤ r → IsWay hinges root n p → IsSome (spot_at spots p)
 
 -- so are those that hang one more by the first i joints
@@ -181,7 +187,7 @@ pub record AreReached (hinges : List Hinge) (root r i : ℕ) (spots : List (Opti
 -- the panels that hang at most r joints below the root, and no others
 pub record AreSpots (hinges : List Hinge) (root r : ℕ) (spots : List (Option Spot)) : Type 0 where
   pub count : length spots ≡ MOST_PANELS
-  pub known : (p : ℕ) → IfSome (spot_at spots p) (λ s. IsSpot hinges spots root p s × (s.depth ≤ r))
+  pub known : (p : ℕ) → IsKnown hinges spots root r p (spot_at spots p)
   pub whole : (p n : ℕ) → p < MOST_PANELS → n ≤ r → IsWay hinges root n p → IsSome (spot_at spots p)
 
 -- the joint by which panel p hangs as the spot says

@@ -13,6 +13,11 @@ use std::alloc::{AllocError, Global};
 /// The most dielines that are made at once.
 pub const MOST_MADE: u16 = 60;
 
+/// The limit as a number.
+pub fn limits_in_numbers()
+    ensures numbers { (MOST_MADE ≡ 60) }
+{}
+
 /// A file that a command reads.
 #[derive(Clone, Copy, Debug)]
 pub struct Wanted<'a> {

@@ -9,7 +9,7 @@ mod table;
 mod words;
 
 pub use ends::End;
-pub use givens::{Given, MOST_MADE, Wanted};
+pub use givens::{Given, MOST_MADE, Wanted, limits_in_numbers};
 pub use kinds::FileKind;
 pub use table::{Row, Slot, VERBS, Verb, row_of};
 pub use words::{Asked, command_of, wanted_by};

@@ -1,8 +1,9 @@
 use Rattle.std.proofs.Common.{refl, sym, subst}
 use Rattle.carton_check.specs.Checks.{IsChecked}
-use Rattle.carton_check.specs.Steps.{AreMoves, AreJudged}
+use Rattle.carton_text.specs.PlanMoves.{AreMoves}
+use Rattle.carton_text.proofs.PlanMoves.{moves_of}
+use Rattle.carton_check.specs.Steps.{AreJudged}
 use Rattle.carton_check.proofs.Implied.{judged_checked, sound_where, clear_holds}
-use Rattle.carton_check.proofs.Moves.{moves_of}
 use Rattle.carton_check.proofs.checking.check.Goals.{After-judged}
 use Rattle.carton_check.proofs.checking.check.Goals as goal
 

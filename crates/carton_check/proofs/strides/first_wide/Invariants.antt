@@ -1,5 +1,5 @@
 use Rattle.std.proofs.Common.{ℕ, ◌<◌}
-use Rattle.carton_check.specs.Checks.{IsFineMove}
+use Rattle.carton_text.specs.TaskPlans.{IsFineMove}
 use Rattle.carton_check.proofs.strides.first_wide.Given as goal
 
 abbrev pub invariant-loop-i : goal.invariant-loop-i

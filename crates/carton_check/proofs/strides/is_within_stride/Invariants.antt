@@ -1,4 +1,4 @@
-use Rattle.carton_check.specs.Sound.{IsStrideFrom}
+use Rattle.carton_text.specs.PlanMoves.{IsStrideFrom}
 use Rattle.carton_check.proofs.strides.is_within_stride.Given as goal
 
 abbrev pub invariant-loop-k : goal.invariant-loop-k

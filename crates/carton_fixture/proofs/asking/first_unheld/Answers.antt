@@ -1,11 +1,19 @@
 use Rattle.std.proofs.Common.{◌≡◌, ◌∙◌, ap, sym, subst, refl, pos, slice_get, Some, List}
+use Rattle.std.specs.Prelude.{All}
 use Rattle.std.proofs.lemmas.Option.{slice_get_read}
 use Rattle.carton_base.specs.declared.bodies.Cuboid.{Cuboid}
 use Rattle.carton_base.specs.declared.bodies.Guide.{Guide}
-use Rattle.carton_base.proofs.Loops.{all_more, all_end}
+use Rattle.carton_base.proofs.Loops.{all_more, all_end, at_item}
+use Rattle.carton_catalogue.specs.Fits.{FitsGuide}
 use Rattle.carton_guide.specs.Notes.{IsHeld, IsLooseAt}
 use Rattle.carton_fixture.specs.Fixtures.{HoldAll}
 use Rattle.carton_fixture.proofs.asking.first_unheld.Goals as goal
+
+pub held-note-requires-clause-guide : goal.held-note-requires-clause-guide
+held-note-requires-clause-guide c =
+    let Fit = FitsGuide c.args.carton.now c.args.plan.now.states in
+    at_item Fit c.as_slice-guides.result.now c.loop-k.k c.index-guides-k.result c.loop-k-test.true
+    c.index-guides-k.is (subst (All Fit) (sym c.as_slice-guides.ensures) c.requires.ready.fits)
 
 pub returns-in-Unheld : goal.returns-in-Unheld
 returns-in-Unheld c =

@@ -2,7 +2,7 @@ use Rattle.std.proofs.Common.{subst, SFits, pos, ◌*ℤ◌, arith, rules}
 use Rattle.std.specs.Int.{w128}
 use Rattle.std.proofs.lemmas.Int.{ints, to_z-of_z}
 use Rattle.carton_base.specs.Rounding.{unit}
-use Rattle.carton_guide.specs.Depths.{IsDepthIn}
+use Rattle.carton_bodies.specs.Depths.{IsDepthIn}
 use Rattle.carton_guide.proofs.holders.look_in.Goals as goal
 
 pub returns-then-depth-ge0-clause-good : goal.returns-then-depth-ge0-clause-good

@@ -1,12 +1,11 @@
 use Rattle.std.proofs.Common.{◌+◌, ◌≤◌, refl, sym, subst, pos, arith}
 use Rattle.carton_base.specs.declared.motion.State.{State}
-use Rattle.carton_check.specs.Sound.{IsMove}
-use Rattle.carton_check.specs.Steps.{AreMoves}
+use Rattle.carton_text.specs.PlanMoves.{IsMove, AreMoves}
+use Rattle.carton_text.proofs.PlanMoves.{moves_of_plan}
 use Rattle.carton_guide.specs.declared.note.End.{End}
 use Rattle.carton_guide.specs.Notes.{IsHeldThrough, IsLooseDuring, IsLooseAt}
 use Rattle.carton_guide.proofs.WellHeld.{loose_not_well}
 use Rattle.carton_guide.proofs.holding.held.Goals.{After-from}
-use Rattle.carton_bodies.proofs.Plans.{moves_of_plan}
 use Rattle.carton_guide.proofs.Fitting.{HeldFrom, held_more}
 use Rattle.carton_guide.proofs.holding.held.Goals as goal
 

@@ -1,6 +1,6 @@
 use Rattle.std.proofs.Common.{ℕ, ◌<◌, ◌≤◌}
 use Rattle.carton_base.specs.declared.motion.State.{State}
-use Rattle.carton_check.specs.Sound.{IsMove}
+use Rattle.carton_text.specs.PlanMoves.{IsMove}
 use Rattle.carton_guide.specs.declared.note.End.{End}
 use Rattle.carton_guide.specs.Notes.{IsHeldThrough}
 use Rattle.carton_guide.proofs.holding.held.Given as goal

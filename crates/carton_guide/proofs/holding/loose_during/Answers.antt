@@ -1,6 +1,6 @@
 use Rattle.std.proofs.Common.{◌≡◌, ◌∙◌, ◌+◌, ap, sym, subst, pos, arith}
 use Rattle.std.specs.Prelude.{All, Contains}
-use Rattle.carton_check.specs.Sound.{IsMove}
+use Rattle.carton_text.specs.PlanMoves.{IsMove}
 use Rattle.carton_model.specs.Dielines.{IsNear}
 use Rattle.carton_reach.specs.Spots.{shape_at}
 use Rattle.carton_tree.specs.Trees.{path, turns_up, turns_between}
@@ -36,7 +36,7 @@ invariant_of-course c =
       near = subst (All IsNear) (sym c.as_slice.ensures)
           (λ k d l. near_in (shape_at t f) _ c.keeps_shape.ensures (on k d l));
       moves = c.window_move.ensures.motion;
-      in_plan = let w = c.requires.window.upto in let m = c.requires.guide.moves in
+      in_plan = let w = c.requires.window.upto in let m = c.requires.guide.2.window.moves in
           let few = c.requires.states.few in omega (arith, w, m, few, c.from.ensures);
     }
 
@@ -69,7 +69,7 @@ returns-clause-loose c =
     let turns : c.turns.result.now ≡ turns_between t f t.root = c.turns.ensures.turns
     ∙ ap (turns_up t.joints f) c.root.ensures ∙ sym (to_world t f c.requires.carton lt) in
     let w = c.requires.window.upto in
-    let m = c.requires.guide.moves in
+    let m = c.requires.guide.2.window.moves in
     let from = element states i (omega (arith, w, m)) in
     let to = element states (i + 1) (omega (arith, w, m)) in
     let is : IsMove states i from.0 to.0 = record { from = from.1; to = to.1 } in

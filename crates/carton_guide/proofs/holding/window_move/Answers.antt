@@ -1,7 +1,7 @@
 use Rattle.std.proofs.Common.{◌≡◌, ◌+◌, arith}
 use Rattle.carton_base.specs.declared.motion.State.{State}
-use Rattle.carton_check.specs.Sound.{IsMove}
-use Rattle.carton_check.proofs.Moves.{of_move}
+use Rattle.carton_text.specs.PlanMoves.{IsMove}
+use Rattle.carton_text.proofs.PlanMoves.{of_move}
 use Rattle.carton_model.specs.Moves.{fold_at}
 use Rattle.carton_guide.specs.Bands.{banded_folds}
 use Rattle.carton_guide.proofs.Fitting.{read_at}

@@ -4,11 +4,10 @@ use Rattle.std.proofs.lemmas.List.Elements.{All-weaker}
 use Rattle.carton_base.specs.declared.bodies.Cuboid.{Cuboid}
 use Rattle.carton_base.proofs.Loops.{at_item}
 use Rattle.carton_bodies.specs.Boxes.{IsBox}
-use Rattle.carton_bodies.proofs.Plans.{plan_of_task}
+use Rattle.carton_text.proofs.PlanMoves.{plan_of_task}
 use Rattle.carton_cases.specs.Cases.{IsSetup}
 use Rattle.carton_catalogue.specs.CatalogueRules.{IsBody}
-use Rattle.carton_fixture.proofs.Ready.{ready_of}
-use Rattle.carton_guide.specs.Guides.{IsFitting}
+use Rattle.carton_catalogue.specs.Fits.{FitsGuide}
 use Rattle.carton_guide_tests.proofs.notes.note.Goals as goal
 
 pub held-requires-clause-plan : goal.held-requires-clause-plan
@@ -21,12 +20,10 @@ pub held-requires-clause-guide : goal.held-requires-clause-guide
 held-requires-clause-guide c =
     let s = c.in_ok-setup.setup in
     let kept : IsSetup s = c.in_ok-setup.ensures in
-    let ready = ready_of s.carton s.task s.plan s.catalogue kept.task_is kept.plan_is kept.catalogue
-    kept.creases kept.fits c.in-Holds.ensures.checked.0 in
+    let Fit = FitsGuide s.carton s.plan.states in
     let some : 0 < length c.as_slice-guides.result.now = omega (arith, c.if-guides-ne1.false) in
-    at_item (IsFitting s.carton s.plan.states) c.as_slice-guides.result.now 0 c.index-guides-0.result some
-    c.index-guides-0.is
-    (subst (All (IsFitting s.carton s.plan.states)) (sym c.as_slice-guides.ensures) ready.fits)
+    at_item Fit c.as_slice-guides.result.now 0 c.index-guides-0.result some c.index-guides-0.is
+    (subst (All Fit) (sym c.as_slice-guides.ensures) kept.fits.guides)
 
 is_box : (b : Cuboid) → IsBody b → IsBox b
 is_box b h = record {

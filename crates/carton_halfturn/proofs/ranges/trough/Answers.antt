@@ -1,18 +1,9 @@
-use Rattle.std.proofs.Common.{◌∙◌, neg_ℤ}
-use Rattle.carton_halfturn.specs.Ranges.{IsTaken, IsHighest}
-use Rattle.carton_halfturn.proofs.Peaks.{taken_turned, lowest}
+use Rattle.std.proofs.Common.{◌≡◌, neg_ℤ, arith}
+use Rattle.std.proofs.lemmas.Int.{ints}
 use Rattle.carton_halfturn.proofs.ranges.trough.Goals as goal
 
-pub returns : goal.returns
-returns c =
-    let r = c.args.r in
-    let t : IsTaken (neg_ℤ r.high) (neg_ℤ r.low) r.den c.crest.result.num =
-    rw (← c.turned.ensures.low, ← c.turned.ensures.high, ← c.turned.ensures.den) c.crest.ensures.taken in
-    let h : IsHighest (neg_ℤ r.high) (neg_ℤ r.low) r.den c.crest.result.num =
-    rw (← c.turned.ensures.low, ← c.turned.ensures.high, ← c.turned.ensures.den)
-    c.crest.ensures.highest in
-    record {
-      den = c.opposite.ensures.den ∙ c.crest.ensures.den ∙ c.turned.ensures.den;
-      taken = rw c.opposite.ensures.num (taken_turned r.low r.high r.den c.crest.result.num t);
-      lowest = rw c.opposite.ensures.num (lowest r.low r.high r.den c.crest.result.num h);
-    }
+pub returns-clause-trough : goal.returns-clause-trough
+returns-clause-trough c =
+    let n : c.opposite.result.num ≡ neg_ℤ c.crest.result.num = c.opposite.ensures.num in
+    let e : neg_ℤ c.opposite.result.num ≡ c.crest.result.num = omega (arith, ints) in
+    rw (e, ← c.turned.ensures.low, ← c.turned.ensures.high, ← c.turned.ensures.den) c.crest.ensures.crest

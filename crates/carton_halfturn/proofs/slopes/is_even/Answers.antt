@@ -3,26 +3,17 @@ use Rattle.std.proofs.lemmas.Int.{ints}
 use Rattle.carton_halfturn.proofs.slopes.is_even.Goals as goal
 
 pub returns-then-r-3 : goal.returns-then-r-3
-returns-then-r-3 c = (
-  λ t. record {
-    near = omega (arith, ints, c.args.r.least, c.args.r.greatest, c.args.r.fine);
-    side = inr (inl (omega (arith, ints, c.args.r.positive, c.args.r.fine)));
-  },
-  λ s. refl,
-)
+returns-then-r-3 c =
+    (λ t. record { near = omega (arith, ints); side = inr (inl (omega (arith, ints))) }, λ s. refl)
 
 pub returns-then-r-4 : goal.returns-then-r-4
-returns-then-r-4 c = (
-  λ t. absurd (cc t),
-  λ s.
-      absurd (omega (arith, ints, s.near, s.side, c.args.r.positive, c.args.r.fine, c.args.r.ordered)),
-)
+returns-then-r-4 c = (λ t. absurd (cc t), λ s. absurd (omega (arith, ints)))
 
 pub returns : goal.returns
 returns c = (
   λ t. record {
-    near = omega (arith, ints, c.args.r.least, c.args.r.greatest, c.args.r.fine);
-    side = inr (inr (omega (arith, ints, c.args.r.positive, c.args.r.fine), omega (arith, ints)));
+    near = omega (arith, ints);
+    side = inr (inr (omega (arith, ints), omega (arith, ints)));
   },
-  λ s. sym (omega (arith, ints, s.near, s.side, c.args.r.positive, c.args.r.fine, c.args.r.ordered)),
+  λ s. sym (omega (arith, ints)),
 )

@@ -30,13 +30,12 @@ returns c =
     let b : SFits w128 c.reach.result = search rules in
     let low : c.either_way.result.lo ≡ neg_ℤ c.reach.result = simp to_z-of_z at c.either_way.ensures.low in
     let high : c.either_way.result.hi ≡ c.reach.result = simp to_z-of_z at c.either_way.ensures.high in
-    let r : IsRate c.args.f c.args.first c.args.last c.either_way.result =
-    inr record {
+    let r : IsRate c.args.f c.args.first c.args.last c.either_way.result = inr record {
       rough = λ s.
           let e : IsTrue false = c.if-is_even.ensures.1 (even_of _ _ _ _ c.range_of.ensures s) in
           absurd (cc e);
       most = rw high c.reach.ensures.reach;
-      low = omega (arith, ints, low, high);
+      low = omega (arith, ints);
     } in
     let k = sized_rate _ c.args.first c.args.last _ c.requires.first_tight c.requires.last_tight r in
     record { rate = r; spread = k.0; modest = k.1; within = c.either_way.ensures.within }

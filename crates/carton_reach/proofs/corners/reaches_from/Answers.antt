@@ -1,6 +1,6 @@
 use Rattle.std.proofs.Common.{arith, sym, subst, get_or, ◌-◌, ◌*◌, ◌^◌}
 use Rattle.carton_reach.specs.Axes.{axis_at}
-use Rattle.carton_reach.specs.Reaches.{IsReach}
+use Rattle.carton_reach.specs.Reaches.{IsReach, swing_units}
 use Rattle.carton_reach.specs.Starts.{IsTurnedFrom}
 use Rattle.carton_reach.proofs.Reached.{HoldsCorner, own_moment, reach_of_one, reach_of_more}
 use Rattle.carton_reach.proofs.corners.reaches_from.Goals as goal
@@ -13,7 +13,8 @@ loop-k-init g c = λ spots index depth t a d l.
     (subst (λ x. IsTurnedFrom c.args.turns.now c.args.swings.now x (n * 2 ^ depth - index * e) e
     (spots 0 n e)) (sym c.index-starts-0.is) (t.turned 0 s (omega (arith, c.requires.some)) n e m i)) in
     reach_of_one g.E.Enclose.holds g.E.Enclose.spread c.corner_at.result spots 0 index depth (axis_at a)
-    (get_or c.of_corner-all.result.axes a d) held (λ e. c.corner_at.ensures.close (t.close e))
+    (get_or c.of_corner-all.result.axes a d) held
+    (λ e. c.corner_at.ensures.close (swing_units depth) (omega arith) (t.close e))
     (c.of_corner-all.ensures a d l)
 
 pub loop-k-preserved : goal.loop-k-preserved
@@ -28,7 +29,8 @@ loop-k-preserved g c = λ spots index depth t a d l.
     (t.turned k s (omega (arith, c.loop-k-test.true)) n e m i)) in
     reach_of_more g.E.Enclose.holds g.E.Enclose.spread c.corner_at-in-loop-k.result spots k index depth
     (axis_at a) (get_or c.loop-k.all.axes a d) (get_or c.widen.new.self.axes a d) t.positive held
-    (λ e. c.corner_at-in-loop-k.ensures.close (t.close e)) (c.loop-k.invariant spots index depth t a d l)
+    (λ e. c.corner_at-in-loop-k.ensures.close (swing_units depth) (omega arith) (t.close e))
+    (c.loop-k.invariant spots index depth t a d l)
     (c.widen.ensures a d l)
 
 pub returns : goal.returns

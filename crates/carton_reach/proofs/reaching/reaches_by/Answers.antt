@@ -34,6 +34,6 @@ returns g c = λ a d l.
       turned = turned motion turns swings corners c.starts_of.result.now index depth
           c.starts_of.ensures.starts enough
           (λ k s t l. (c.swings_over-swings.ensures.swings k s t l).follows);
-      close = narrow motion turns swings index depth c.requires.motion c.requires.turns enough
-          c.swings_over-swings.ensures.swings;
+      close = λ e. narrow motion turns swings index depth c.requires.motion c.requires.turns enough
+          c.swings_over-swings.ensures.swings c.args.piece.shallow;
     } a d l)

@@ -1,7 +1,7 @@
 use Rattle.std.proofs.Common.{sym, subst}
 use Rattle.carton_check.specs.Checks.{IsChecked}
-use Rattle.carton_check.specs.Steps.{AreMoves}
-use Rattle.carton_check.proofs.Moves.{moves_of}
+use Rattle.carton_text.specs.PlanMoves.{AreMoves}
+use Rattle.carton_text.proofs.PlanMoves.{moves_of}
 use Rattle.carton_report.proofs.reporting.clearances.Goals as goal
 
 pub rows-requires-clause-moves : goal.rows-requires-clause-moves

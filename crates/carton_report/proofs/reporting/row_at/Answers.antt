@@ -10,7 +10,7 @@ tightest-requires-clause-apart c =
 pub returns-in-Some : goal.returns-in-Some
 returns-in-Some c = (
   refl,
-  tightest c.args.carton.now c.args.slack c.args.states.now c.args.i c.move_at-motion.result
+  tightest c.args.carton.now c.args.states.now c.args.i c.move_at-motion.result
       c.in-Some.field-0 c.move_at-motion.ensures.is c.in-Some.ensures.tight c.in-Some.ensures.clear,
 )
 

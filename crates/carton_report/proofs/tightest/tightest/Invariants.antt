@@ -6,6 +6,6 @@ use Rattle.carton_report.proofs.tightest.tightest.Given as goal
 
 abbrev pub invariant-loop-a : goal.invariant-loop-a
 invariant-loop-a l =
-    IfSome l.found (IsTight l.carton l.motion l.slack)
+    IfSome l.found (IsTight l.carton l.motion)
     × ((a b : ℕ) → a < l.a → AreStrangers l.carton a b
     → StayClear l.carton l.motion a b (clearance_of l.found))

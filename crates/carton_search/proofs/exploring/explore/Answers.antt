@@ -56,7 +56,7 @@ returns-then-turns-task-clause-outcome g c =
     stopped c.args.task.now (g.J.Judge.carton c.args.judge.now) c.requires.suits.rules k c.turn.turns going.0
     going.1 number c.in-Some.priority c.in-Some.ensures.least c.entry-found.result
     (ap (λ (es : List Entry). slice_get es number) (sym same) ∙ c.entry-found.ensures) c.if-turns-task.true
-    c.take.new.self
+    c.if-is_same.ensures c.take.new.self
 
 pub try_steps-requires-clause-trying : goal.try_steps-requires-clause-trying
 try_steps-requires-clause-trying g c =

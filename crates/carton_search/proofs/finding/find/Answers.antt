@@ -52,7 +52,8 @@ returns-in-NoWay-clause-end g c =
     let task = c.args.task.now in
     let carton = g.J.Judge.carton c.args.judge.now in
     let k = c.explore.new.known in
-    let o = outcome_is task _ carton k _ _ c.state.ensures.carton c.in-NoWay.is c.in_ok-number.ensures.outcome in
+    let o = outcome_is task _ carton k _ _ c.state.ensures.carton c.in-NoWay.is
+    c.in_ok-number.ensures.outcome in
     none_end task carton c.requires.rules k o (clear_state carton task.start c.in_default.ensures.verdict)
 
 pub returns-clause-end : goal.returns-clause-end

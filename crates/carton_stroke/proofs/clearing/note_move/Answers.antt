@@ -1,7 +1,7 @@
 use Rattle.std.proofs.Common.{arith, ◌∙◌, ◌<◌, ◌+◌, List, length, get_or}
 use Rattle.carton_base.specs.declared.bodies.Cuboid.{Cuboid}
 use Rattle.carton_base.specs.declared.motion.State.{State}
-use Rattle.carton_check.specs.Sound.{IsMove}
+use Rattle.carton_text.specs.PlanMoves.{IsMove}
 use Rattle.carton_stroke.specs.Steps.{IsNoteBefore}
 use Rattle.carton_stroke.proofs.Noted.{after_move}
 use Rattle.carton_stroke.proofs.Passed.{one_more_changed}

@@ -1,7 +1,7 @@
 use Rattle.std.proofs.Common.{◌+◌, List, get_or}
 use Rattle.carton_base.specs.declared.bodies.Cuboid.{Cuboid}
 use Rattle.carton_base.specs.declared.motion.State.{State}
-use Rattle.carton_check.specs.Sound.{IsMove}
+use Rattle.carton_text.specs.PlanMoves.{IsMove}
 use Rattle.carton_stroke.specs.Steps.{IsNoteBefore}
 use Rattle.carton_stroke.proofs.Passed.{HaveChanged}
 use Rattle.carton_stroke.proofs.clearing.note_move.Given as goal

@@ -1,6 +1,6 @@
 use Rattle.std.proofs.Common.{arith}
 use Rattle.carton_base.proofs.Loops.{yes, no, at_yes, at_no}
-use Rattle.carton_stroke.specs.Extents.{IsApart}
+use Rattle.carton_stroke.specs.Nearness.{IsApart}
 use Rattle.carton_stroke.proofs.Passed.{one_more_beside}
 use Rattle.carton_stroke.proofs.nearness.are_apart.Goals as goal
 

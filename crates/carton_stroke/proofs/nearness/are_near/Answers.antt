@@ -3,7 +3,7 @@ use Rattle.std.specs.Int.{w128}
 use Rattle.std.proofs.lemmas.Int.{to_z-of_z}
 use Rattle.carton_base.proofs.Loops.{yes, at_yes}
 use Rattle.carton_reach.specs.Reaches.{half}
-use Rattle.carton_stroke.specs.Extents.{IsNear, AllNear}
+use Rattle.carton_stroke.specs.Nearness.{IsNear, AllNear}
 use Rattle.carton_stroke.proofs.Passed.{one_more_beside}
 use Rattle.carton_stroke.proofs.nearness.are_near.Goals as goal
 

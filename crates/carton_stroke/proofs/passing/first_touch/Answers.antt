@@ -1,14 +1,14 @@
 use Rattle.std.proofs.Common.{ℕ, arith, pos, refl, subst, below_more, ◌<◌}
 use Rattle.carton_part.specs.Parted.{AtEachMoment}
-use Rattle.carton_stroke.specs.Extents.{AreExtents}
+use Rattle.carton_bodies.specs.Extents.{AreExtents}
 use Rattle.carton_stroke.specs.Steps.{IsPartedAt}
 use Rattle.carton_stroke.proofs.Seen.{known_axes, known_kept}
 use Rattle.carton_stroke.proofs.passing.first_touch.Goals.{then-not-are_known_apart+in_default}
 use Rattle.carton_stroke.proofs.passing.first_touch.Goals.{else-not-are_known_apart}
 use Rattle.carton_stroke.proofs.passing.first_touch.Goals as goal
 
-pub are_known_apart-requires : goal.are_known_apart-requires
-are_known_apart-requires c =
+pub are_known_apart-requires-clause-reaches : goal.are_known_apart-requires-clause-reaches
+are_known_apart-requires-clause-reaches c =
     let lt : c.loop-p.p < 24 =
     omega (arith, c.loop-p-test.true, c.panels-p-end.ensures.count, c.panels-p-end.ensures.carton.few) in
     known_axes c.args.carton.now c.args.motion.now c.loop-p.p _
@@ -25,7 +25,7 @@ loop-p-preserved c =
     omega (arith, c.loop-p-test.true, c.panels-p-end.ensures.count, c.panels-p-end.ensures.carton.few) in
     let extents : AreExtents b 0 0 es = subst (λ k. AreExtents b 0 k es) c.whole.ensures.depth
     (subst (λ i. AreExtents b i c.whole.result.depth es) c.whole.ensures.index
-    c.extents_over-extents.ensures) in
+    c.extents_over-extents.ensures.extents) in
     below_more (λ (panel : ℕ). AtEachMoment (IsPartedAt t motion panel b (pos 0))) p c.loop-p.invariant
     (elim c.if-not-are_known_apart.branch [
       | then-not-are_known_apart+in_default w ↦ w.in_default.ensures.none refl

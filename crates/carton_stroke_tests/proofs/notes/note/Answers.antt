@@ -1,4 +1,4 @@
-use Rattle.carton_bodies.proofs.Plans.{plan_of_task}
+use Rattle.carton_text.proofs.PlanMoves.{plan_of_task}
 use Rattle.carton_cases.specs.Cases.{IsCase}
 use Rattle.carton_stroke_tests.proofs.notes.note.Goals as goal
 

@@ -3,7 +3,7 @@ use Rattle.std.specs.Io.KnownBytes.{Appends}
 use Rattle.carton_tool.proofs.Answering.{bad_words_where_none}
 use Rattle.carton_tool.proofs.Determined.{determined}
 use Rattle.carton_tool.proofs.Ends.{bad_or_fault}
-use Rattle.carton_tool.proofs.Fixtures.{tells_made, tells_good}
+use Rattle.carton_tool.proofs.Fixtures.{tells_made, tells_good, tells_why_not_made, tells_fault}
 use Rattle.carton_tool.proofs.Headline.{tells_safe, tells_least, found_in_reach}
 use Rattle.carton_tool.proofs.Sound.{sound_where_done, made_where_told}
 use Rattle.carton_tool.specs.Saying.{status_of}
@@ -82,6 +82,22 @@ returns-in-Ok-clause-verified_good g c = λ done.
     tells_good (g.S.Shelf.holds c.args.shelf.now) _ (texts c.args.words.now) a.0 c.in-Ok.said
     (Appends (g.K.Sink.written c.args.sink.now) (g.K.Sink.written c.say.new.sink)) a.1 a.2
     (sym told.0 ∙ done) told.1
+
+pub returns-in-Ok-clause-refused_cause : goal.returns-in-Ok-clause-refused_cause
+returns-in-Ok-clause-refused_cause g c = λ refused.
+    let a = c.in-Ok.ensures.said in
+    let told = c.say.ensures.said (λ e. absurd (cc)) in
+    tells_why_not_made (g.S.Shelf.holds c.args.shelf.now) _ (texts c.args.words.now) a.0 c.in-Ok.said
+    (Appends (g.K.Sink.written c.args.sink.now) (g.K.Sink.written c.say.new.sink)) a.1 a.2
+    (sym told.0 ∙ refused) told.1
+
+pub returns-in-Ok-clause-fault_cause : goal.returns-in-Ok-clause-fault_cause
+returns-in-Ok-clause-fault_cause g c = λ refused.
+    let a = c.in-Ok.ensures.said in
+    let told = c.say.ensures.said (λ e. absurd (cc)) in
+    tells_fault (g.S.Shelf.holds c.args.shelf.now) _ (texts c.args.words.now) a.0 c.in-Ok.said
+    (Appends (g.K.Sink.written c.args.sink.now) (g.K.Sink.written c.say.new.sink)) a.1 a.2
+    (sym told.0 ∙ refused) told.1
 
 pub returns-in-Ok-clause-determined : goal.returns-in-Ok-clause-determined
 returns-in-Ok-clause-determined g c = determined (texts c.args.words.now)

@@ -1,15 +1,7 @@
-use Rattle.std.proofs.Common.{refl, arith}
+use Rattle.std.proofs.Common.{arith}
 use Rattle.std.proofs.lemmas.List.{length_push}
 use Rattle.carton_tree.proofs.Gathering.{one_edge_more}
 use Rattle.carton_tree.proofs.besides.all_besides.Goals as goal
-
-pub loop-k-init : goal.loop-k-init
-loop-k-init c =
-    rw c.new-all.ensures.items
-    (record {
-      made = record { few = omega arith; each = λ k b lt. absurd (omega (arith, lt)) };
-      count = refl;
-    })
 
 pub loop-k-preserved : goal.loop-k-preserved
 loop-k-preserved c =

@@ -6,8 +6,8 @@ use Rattle.carton_tree.proofs.build.hung.Goals as goal
 
 pub returns-in-Err-clause-refused : goal.returns-in-Err-clause-refused
 returns-in-Err-clause-refused c =
-    first_loop c.args.raw.now c.args.hinges.now.creases.items c.args.hinges.now.all.items c.in-Err.e
-    c.requires.hinges (subst (λ (h : List Hinge). IsFirstLoop h c.in-Err.e) c.deref.ensures.value
+    first_loop c.args.raw.now c.args.hinges.now.creases.items c.args.hinges.now.all.items c.requires.hinges
+    c.in-Err.e (subst (λ (h : List Hinge). IsFirstLoop h c.in-Err.e) c.deref.ensures.value
     c.in-Err.ensures.closed)
 
 pub returns-then-len-root-clause-refused : goal.returns-then-len-root-clause-refused

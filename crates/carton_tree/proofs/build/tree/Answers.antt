@@ -1,13 +1,11 @@
 use Rattle.std.proofs.Common.{inl, inr, subst}
 use Rattle.std.proofs.lemmas.Result.{err_from_is_err_and}
-use Rattle.carton_base.specs.declared.limits.TheConstants.{LONGEST_PATH}
 use Rattle.carton_panels.specs.DielinePanels.{ArePanels}
 use Rattle.carton_panels.proofs.DielinePanels.{are_panels}
 use Rattle.carton_tree.specs.Rules.{KeepsPanels, KeepsAxes, KeepsShallow}
 use Rattle.carton_tree.specs.Trees.{Tree}
 use Rattle.carton_tree.proofs.Answering.{answered}
 use Rattle.carton_tree.proofs.Climbing.{carton_from, few_hinges, is_hung, tree_from}
-use Rattle.carton_tree.proofs.Deciding.{hinge_below}
 use Rattle.carton_tree.proofs.Tying.{no_loops}
 use Rattle.carton_tree.proofs.build.tree.Goals as goal
 
@@ -40,21 +38,16 @@ joints_of-requires-clause-few c =
     c.in_ok-hinges.ensures.hinges c.in_ok-spots.ensures.open c.in_ok-spots.ensures.spots
     c.in_ok-spots.ensures.deep
 
-pub joints_of-requires-clause-spots : goal.joints_of-requires-clause-spots
-joints_of-requires-clause-spots c = λ p. hinge_below c.in_ok-hinges.hinges.all.items c.in_ok-spots.spots p
-    c.args.root.0 LONGEST_PATH c.in_ok-spots.ensures.spots
-
 pub carton_of-requires : goal.carton_of-requires
 carton_of-requires c =
     let hinges = c.in_ok-hinges.hinges in
-    let hung = is_hung c.requires.dieline c.in_ok-hinges.ensures.creases c.in_ok-hinges.ensures.hinges
-    c.in_ok-spots.ensures.open c.in_ok-spots.ensures.root c.in_ok-spots.ensures.spots
-    c.in_ok-spots.ensures.deep
-    c.in_ok-joints.ensures.joints c.in_ok-joints.ensures.whole in
+    let hung = is_hung c.args.raw.now hinges.creases.items hinges.all.items c.in_ok-spots.spots c.args.root.0
+    c.requires.dieline c.in_ok-hinges.ensures.hinges c.in_ok-spots.ensures.open c.in_ok-spots.ensures.spots
+    c.in_ok-spots.ensures.deep c.in_ok-joints.joints.items c.in_ok-hinges.ensures.creases
+    c.in_ok-spots.ensures.root c.in_ok-joints.ensures.joints c.in_ok-joints.ensures.whole in
     record {
       carton = carton_from c.args.raw.now hinges.creases.items hinges.all.items c.in_ok-spots.spots
-          c.in_ok-joints.joints.items
-          c.in_ok-shapes.shapes.items c.args.root.0 hung c.in_ok-shapes.ensures.whole;
+          c.in_ok-joints.joints.items c.args.root.0 hung c.in_ok-shapes.shapes.items c.in_ok-shapes.ensures.whole;
     }
 
 pub returns : goal.returns
@@ -63,9 +56,9 @@ returns c =
     let hs = c.in_ok-hinges.hinges.all.items in
     let cs = c.in_ok-hinges.hinges.creases.items in
     let js = c.in_ok-joints.joints.items in
-    let hung = is_hung c.requires.dieline c.in_ok-hinges.ensures.creases c.in_ok-hinges.ensures.hinges
-    c.in_ok-spots.ensures.open c.in_ok-spots.ensures.root c.in_ok-spots.ensures.spots
-    c.in_ok-spots.ensures.deep
+    let hung = is_hung d cs hs c.in_ok-spots.spots c.args.root.0 c.requires.dieline
+    c.in_ok-hinges.ensures.hinges c.in_ok-spots.ensures.open c.in_ok-spots.ensures.spots
+    c.in_ok-spots.ensures.deep js c.in_ok-hinges.ensures.creases c.in_ok-spots.ensures.root
     c.in_ok-joints.ensures.joints c.in_ok-joints.ensures.whole in
     let panels : KeepsPanels c.args.margin d = subst (λ n. ArePanels c.args.margin d n)
     c.in_ok-shapes.ensures.whole
@@ -92,5 +85,5 @@ returns c =
     } in
     answered c.args.margin d c.args.root.0 t c.carton_of.result c.carton_of.ensures.value
     c.carton_of.ensures.err panels axes shallow
-    (tree_from c.args.margin d cs hs c.in_ok-spots.spots js c.in_ok-shapes.shapes.items c.args.root.0 hung
+    (tree_from d cs hs c.in_ok-spots.spots js c.args.root.0 hung c.args.margin c.in_ok-shapes.shapes.items
     c.in_ok-shapes.ensures.whole c.in_ok-shapes.ensures.shapes)

@@ -18,16 +18,6 @@ of_edge : (d : RawDieline) (cs : List EdgeId) (k l f : ℕ) (t : Turn) → k ≡
     → IsTurnOf d cs l f t
 of_edge d cs k l f t e h = subst (λ m. IsTurnOf d cs m f t) e h
 
-pub place_of-requires : goal.place_of-requires
-place_of-requires c =
-    let d = c.args.raw.now in
-    let cs = c.args.hinges.now.creases.items in
-    let x : Hinge = c.index-hinge.result.now in
-    let is = subst (IsHinge d cs) (sym c.index-hinge.ensures)
-    (c.requires.hinges.each c.args.i x c.requires.i) in
-    place_below d cs x.edge.0 MOST_JOINTS x.crease (omega (arith, c.requires.few, c.requires.hinges.few))
-    is.place
-
 pub returns-clause-turn : goal.returns-clause-turn
 returns-clause-turn c = λ h.
     let d = c.args.raw.now in

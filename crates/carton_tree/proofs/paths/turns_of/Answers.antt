@@ -1,12 +1,9 @@
-use Rattle.std.proofs.Common.{◌≡◌, List, Option, None, refl}
+use Rattle.std.proofs.Common.{◌≡◌, List, Option, None}
 use Rattle.carton_base.specs.declared.limits.TheConstants.{LONGEST_PATH}
 use Rattle.carton_tree.specs.declared.joint.Joint.{Joint}
 use Rattle.carton_tree.specs.Trees.{joint_of, turns_by}
 use Rattle.carton_tree.proofs.Walking.{step_up, turns_on, turns_end, turns_full}
 use Rattle.carton_tree.proofs.paths.turns_of.Goals as goal
-
-pub loop-step-init : goal.loop-step-init
-loop-step-init c = rw c.new-found.ensures.items (record { within = c.requires.p; rest = refl })
 
 pub returns-in-None-clause-turns : goal.returns-in-None-clause-turns
 returns-in-None-clause-turns c =

@@ -1,4 +1,4 @@
-use Rattle.std.proofs.Common.{◌<◌, length, sym, ◌∙◌, arith, below_more}
+use Rattle.std.proofs.Common.{sym, ◌∙◌, below_more}
 use Rattle.carton_base.proofs.Loops.{at_no}
 use Rattle.carton_tree.specs.Rules.{IsSlantedJoint}
 use Rattle.carton_tree.proofs.Ways.{no_pair}
@@ -17,8 +17,3 @@ loop-k-preserved c =
           λ s. no_pair d k c.joined_at.result c.joined_at.ensures (sym c.is_some.ensures ∙ w.if-is_some.false)
           s.0
     ])
-
-pub returns : goal.returns
-returns c = λ k s.
-    let in' : k < length c.args.raw.now.edges = s.0.2.crease.side_of_first.3.within in
-    c.loop-k.invariant k (omega (arith, in', c.requires.whole, c.loop-k-test.false)) s

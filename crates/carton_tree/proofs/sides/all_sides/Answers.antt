@@ -1,4 +1,4 @@
-use Rattle.std.proofs.Common.{◌≤◌, List, length, refl, sym, subst, arith}
+use Rattle.std.proofs.Common.{◌≤◌, List, length, sym, subst, arith}
 use Rattle.std.proofs.lemmas.List.{length_push}
 use Rattle.carton_base.specs.declared.ids.EdgeId.{EdgeId}
 use Rattle.std.proofs.lemmas.Result.{err_from_is_err_and}
@@ -6,14 +6,6 @@ use Rattle.carton_base.specs.declared.ids.PanelId.{PanelId}
 use Rattle.carton_tree.specs.Steps.{AreSides}
 use Rattle.carton_tree.proofs.FirstEdges.{one_panel_more, none_sooner}
 use Rattle.carton_tree.proofs.sides.all_sides.Goals as goal
-
-pub loop-face-init : goal.loop-face-init
-loop-face-init c =
-    rw c.new-all.ensures.items
-    (record {
-      made = record { few = omega arith; each = λ f es lt. absurd (omega (arith, lt)) };
-      count = refl;
-    })
 
 pub loop-face-preserved : goal.loop-face-preserved
 loop-face-preserved c =

@@ -1,10 +1,8 @@
-use Rattle.std.proofs.Common.{◌≡◌, ℕ, ◌<◌, length, ap, sym, ◌∙◌, arith}
-use Rattle.carton_base.proofs.Loops.{yes, no, none_more}
+use Rattle.std.proofs.Common.{◌≡◌, ℕ, ◌<◌, length, ◌∙◌, arith}
+use Rattle.carton_base.proofs.Loops.{yes, no}
 use Rattle.carton_panels.specs.Around.{Step, around}
 use Rattle.carton_panels.proofs.Steps.{length-around}
 use Rattle.carton_tree.proofs.sides.goes.Goals as goal
-use Rattle.carton_tree.proofs.sides.goes.Goals.{else-from-p-via-then-from-p+else-to-q}
-use Rattle.carton_tree.proofs.sides.goes.Goals.{else-from-p-via-else-from-p}
 
 pub returns-then-to-q : goal.returns-then-to-q
 returns-then-to-q c =
@@ -14,19 +12,6 @@ returns-then-to-q c =
     let same : (record { from = c.side_at-from.result.0; to = c.side_at-from.result.1 }) ≡ wanted =
     λ i. record { from = c.if-from-p.true i; to = c.if-to-q.true i } in
     yes (c.loop-i.i, here, c.side_at-from.ensures wanted ∙ same)
-
-pub loop-i-preserved : goal.loop-i-preserved
-loop-i-preserved c =
-    let here : c.loop-i.i < length (around c.args.vertices.now) =
-    omega (arith, length-around c.args.vertices.now, c.loop-i-test.true) in
-    let wanted : Step ℕ = record { from = c.args.p; to = c.args.q } in
-    let side : Step ℕ = record { from = c.side_at-from.result.0; to = c.side_at-from.result.1 } in
-    let other : ¬ (side ≡ wanted) = λ e. elim c.else-from-p.branch [
-      | else-from-p-via-then-from-p+else-to-q w ↦ w.if-to-q.false (ap (λ (s : Step ℕ). s.to) e)
-      | else-from-p-via-else-from-p w ↦ w.if-from-p.false (ap (λ (s : Step ℕ). s.from) e)
-    ] in
-    none_more (λ (s : Step ℕ). s ≡ wanted) (around c.args.vertices.now) c.loop-i.i side here
-    (sym (c.side_at-from.ensures side)) other c.loop-i.invariant
 
 pub returns : goal.returns
 returns c = no (λ h.

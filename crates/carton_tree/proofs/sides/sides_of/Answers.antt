@@ -6,12 +6,8 @@ use Rattle.carton_panels.specs.Around.{Step, around}
 use Rattle.carton_panels.specs.Creases.{HasEnds, IsFirstEdge}
 use Rattle.carton_panels.proofs.Steps.{length-around}
 use Rattle.carton_tree.specs.Joints.{vertices_of}
-use Rattle.carton_tree.proofs.FirstEdges.{no_sides, one_side_more, not_bare, bare_here}
+use Rattle.carton_tree.proofs.FirstEdges.{one_side_more, not_bare, bare_here}
 use Rattle.carton_tree.proofs.sides.sides_of.Goals as goal
-
-pub loop-i-init : goal.loop-i-init
-loop-i-init c =
-    rw c.new-sides.ensures.items (record { made = no_sides c.args.raw.now c.args.face.0; count = refl })
 
 pub loop-i-preserved : goal.loop-i-preserved
 loop-i-preserved c =

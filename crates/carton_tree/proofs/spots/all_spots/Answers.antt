@@ -1,8 +1,6 @@
-use Rattle.std.proofs.Common.{◌≡◌, List, set, replicate, Option, Some, None, refl, ◌∙◌, subst, arith}
+use Rattle.std.proofs.Common.{List, set, replicate, Option, Some, None, refl, ◌∙◌}
 use Rattle.std.proofs.lemmas.List.{get_or-set_same, get_or-set_other, length-set}
-use Rattle.carton_base.specs.declared.limits.TheConstants.{LONGEST_PATH}
 use Rattle.carton_tree.specs.declared.spots.Spot.{Spot}
-use Rattle.carton_tree.specs.Steps.{AreSpots}
 use Rattle.carton_tree.proofs.Reaching.{root_hangs, nones}
 use Rattle.carton_tree.proofs.spots.all_spots.Goals as goal
 
@@ -18,8 +16,3 @@ loop-r-init c =
 
 pub loop-r-preserved : goal.loop-r-preserved
 loop-r-preserved c = c.hang_all.ensures c.args.root.0 c.loop-r.invariant
-
-pub returns : goal.returns
-returns c =
-    let all : c.loop-r.r ≡ LONGEST_PATH = omega (arith, c.loop-r-test.false, c.loop-r.auto.r-end) in
-    subst (λ r. AreSpots c.args.hinges.now c.args.root.0 r c.loop-r.spots) all c.loop-r.invariant

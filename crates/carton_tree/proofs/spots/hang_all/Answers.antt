@@ -1,8 +1,5 @@
-use Rattle.carton_tree.proofs.Reaching.{round_begins, round_ends}
+use Rattle.carton_tree.proofs.Reaching.{round_ends}
 use Rattle.carton_tree.proofs.spots.hang_all.Goals as goal
-
-pub loop-i-init : goal.loop-i-init
-loop-i-init c = λ root h. round_begins c.args.hinges.now root c.args.r c.args.spots.now h
 
 pub loop-i-preserved : goal.loop-i-preserved
 loop-i-preserved c = λ root h. c.hang.ensures root (c.loop-i.invariant root h)

@@ -3,7 +3,7 @@ use Rattle.carton_base.proofs.Loops.{AllBelow}
 use Rattle.carton_base.specs.declared.dieline.Point.{Point}
 use Rattle.carton_reach.specs.Reaches.{Within}
 use Rattle.carton_guide.specs.Holding.{IsDeepInNone}
-use Rattle.carton_guide.specs.Looks.{probe_at}
+use Rattle.carton_bodies.specs.Spots.{flat_point}
 use Rattle.carton_part.specs.declared.sight.Sight.TheVariants.{Good, Bad, Open}
 use Rattle.carton_guide.proofs.watching.WatchLook.see.Given as goal
 
@@ -13,7 +13,7 @@ invariant-loop-k l =
     let h = l.self.holders.now in
     let Shallow = λ (n d : ℕ) (p : Point).
     IsDeepInNone (pos h.slack) h.stroke h.bodies.now h.chosen.now o.step n d
-    (probe_at o.motion o.turns.now n d p) in
+    (flat_point o.motion o.turns.now n d p) in
     record {
       not_good : l.seen ≢ Good;
       deep : l.seen ≡ Open → l.piece.depth < 36;

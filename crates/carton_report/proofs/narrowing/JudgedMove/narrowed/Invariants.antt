@@ -7,7 +7,7 @@ abbrev pub invariant-loop-certified : goal.invariant-loop-certified
 invariant-loop-certified l =
     (l.certified ≤ l.near.clear) × (l.near.clear ≤ l.fn.first.clear)
     × StayClear l.self.carton.now l.self.motion.now l.a.0 l.b.0 l.certified
-    × AreUnparted l.self.carton.now l.self.motion.now l.a.0 l.b.0 (pos l.near.clear) l.self.slack
+    × AreUnparted l.self.carton.now l.self.motion.now l.a.0 l.b.0 (pos l.near.clear) 1
     l.near.moment
 
 abbrev pub decreases-loop-certified : goal.decreases-loop-certified

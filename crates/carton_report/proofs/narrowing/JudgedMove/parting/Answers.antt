@@ -7,5 +7,5 @@ pub returns : goal.returns
 returns c =
     let fits : SFits w64 c.from.result = search rules in
     let told = simp to_z-of_z at c.part_over.ensures in
-    subst (λ gap. IsPartingOf c.args.self.now.carton.now c.args.self.now.motion.now c.args.a.0 c.args.b.0 gap
-    c.args.self.now.slack c.part_over.result) c.from.ensures told
+    subst (λ gap. IsPartingOf c.args.self.now.carton.now c.args.self.now.motion.now c.args.a.0 c.args.b.0 gap 1
+    c.part_over.result) c.from.ensures told

@@ -1,4 +1,4 @@
-use Rattle.std.proofs.Common.{◌≡◌, refl, ap, arith}
+use Rattle.std.proofs.Common.{refl, ap, arith}
 use Rattle.carton_search.specs.Knowledge.{Knowledge}
 use Rattle.carton_search.proofs.Entries.{long_known, entry_added}
 use Rattle.carton_search.proofs.known.Known.add.Goals as goal
